@@ -1,0 +1,69 @@
+-- Facts about the tests of a sheet, for the proofs of this crate. Assumes nothing.
+use mathlib.Core.Path.{_≡_, refl, sym, _∙_}
+use mathlib.Core.Bool.{Bool, true, false, not, _&&_}
+use mathlib.Core.List.{List}
+use Prim.Native.Nat.{ℕ, zero, suc, _+_, _≤_, _<_}
+use lib.Dec.{leb, eqb}
+use borrow.Author.Tests.{eq-eqb, ne-eqb, eqb-true, eqb-false, not-true, not-false}
+use native.Mathlib.Omega.{arith}
+use native.Mathlib.Numerals.{add-one}
+use Rattle.labeling.specs.Conflicts.{every}
+use Rattle.labeling.specs.Tests.{clash, decide, same, every-is}
+use Rattle.format.specs.Answers.{Outcome, outcomeOf}
+use Rattle.format.specs.Sheet.{ask, unlikeEarlier, pointNo, pointsNo}
+
+-- A QUESTION whose test is b: the answer is no, and its number is returned; or it is yes, and the later questions decide
+pub ask-no : (b : Bool) (k after : ℕ) → b ≡ false → k ≡ ask b k after
+ask-no b k after e = rw e
+
+pub ask-yes : (b : Bool) (k after x : ℕ) → b ≡ true → x ≡ after → x ≡ ask b k after
+ask-yes b k after x e q = rw e q
+
+-- a result r that equals the test b, and the branch that was taken on `!r`
+pub off : (r b : Bool) → r ≡ b → not r ≡ true → b ≡ false
+off r b e t = sym e ∙ not-true r t
+
+pub on : (r b : Bool) → r ≡ b → not r ≡ false → b ≡ true
+on r b e t = sym e ∙ not-false r t
+
+-- two tests one after the other: the first fails, or the second decides
+pub and-no : (a b : Bool) → a ≡ false → false ≡ (a && b)
+and-no a b e = rw e
+
+pub and-yes : (a b r : Bool) → a ≡ true → r ≡ b → r ≡ (a && b)
+and-yes a b r e q = rw e q
+
+-- one earlier position with the same number: not unlike every earlier one
+pub not-unlike : (f : ℕ → ℕ) (i j : ℕ) → j < i → f j ≡ f i → unlikeEarlier f i ≡ false
+unfolding unlikeEarlier
+not-unlike f i j l e =
+    decide (every (λ j. not (eqb (f j) (f i))) i)
+    (λ t. let z : not (eqb (f j) (f i)) ≡ true = every-is (λ j. not (eqb (f j) (f i))) i t j l in
+    let y : not true ≡ true = rw (eq-eqb (f j) (f i) e) at z in absurd (clash y refl))
+    (λ t. t)
+
+-- POINT BY POINT
+
+-- one more point without a no
+pub points-more : (s : List ℕ) (m : ℕ) → pointsNo s m ≡ 0 → pointNo s m ≡ 0 → pointsNo s (m + 1) ≡ 0
+unfolding pointsNo
+points-more s m e q = rw (add-one, eq-eqb (pointsNo s m) 0 e) q
+
+-- the first point with a no decides
+pub points-first : (s : List ℕ) (m k : ℕ) → pointsNo s m ≡ 0 → (pointNo s m ≡ 0 → ⊥) → m < k → pointNo s m ≡ pointsNo s k
+unfolding pointsNo
+points-first s m zero e ne l = absurd (omega arith)
+points-first s m (suc k) e ne l =
+    same m k
+    (λ q. rw (← q, eq-eqb (pointsNo s m) 0 e))
+    (λ no.
+    let ih : pointNo s m ≡ pointsNo s k = points-first s m k e ne (omega arith) in
+    rw (ne-eqb (pointsNo s k) 0 (λ z. ne (ih ∙ z))) ih)
+
+-- THE ANSWER of a call whose first no is k
+
+pub none-outcome : (k : ℕ) → k ≡ 0 → record { refused = false; number = 0 } ≡ outcomeOf k
+none-outcome k e = rw e
+
+pub no-outcome : (r k : ℕ) → r ≡ k → (r ≡ 0 → ⊥) → record { refused = true; number = r } ≡ outcomeOf k
+no-outcome r k e ne = rw (← e, ne-eqb r 0 ne)

@@ -1,0 +1,38 @@
+use borrow.Author.Needs.{needs}
+use lib.Dec.{eqb}
+use lib.ListN.{length}
+use mathlib.Core.Path.{_≡_, sym, ap, _∙_}
+use Rattle.format.specs.Sheet.{questionsNo, sheetNo}
+use Rattle.format.proofs.Laws.{none-outcome, no-outcome}
+use Rattle.format.proofs.check_sheet.Statement.{statement}
+use Rattle.format.proofs.check_sheet.Tie as tie
+use Rattle.format.proofs.check_sheet.Reads as reads
+use Rattle.format.proofs.check_sheet.Lts as lts
+use Rattle.format.proofs.questions_no.Reads as questions-no-reads
+use Rattle.format.proofs.sheet_length.Reads as sheet-length-reads
+
+-- src/lib.rt:206:49
+sheet-length-requires : tie.Need-sheet-length-requires
+sheet-length-requires c κs = search needs
+
+-- src/lib.rt:206:9
+questions-no-requires : tie.Need-questions-no-requires
+questions-no-requires c κs = search needs
+
+-- the number that questions_no gives is the sheet's first no
+first-no : (c : tie.After-questions-no) → c .questions-no .result ≡ sheetNo (c .before .before .before .args .sheet .now)
+unfolding sheetNo
+first-no c =
+    let s = c .before .before .before .args .sheet .now in
+    c .questions-no .ensures ∙ ap (λ l. questionsNo s (eqb (length s) l)) (c .before .sheet-length .ensures .0)
+
+returns : tie.Need-returns
+returns c = none-outcome _ (sym (first-no (c .before)) ∙ c .if1 .taken)
+
+-- src/lib.rt:203:1
+returns-2 : tie.Need-returns-2
+returns-2 c = no-outcome _ _ (first-no (c .before)) (c .if1 .left)
+
+pub check-sheet-spec : {M : Type 1} → statement M
+check-sheet-spec =
+    tie.close (tie.spec sheet-length-requires questions-no-requires returns returns-2)

@@ -1,0 +1,28 @@
+-- For each case of an answer, document 01's number and values. Assumes nothing.
+use mathlib.Core.Path.{_≡_, refl, ap}
+use mathlib.Core.Bool.{Bool, true, false, not, true≢false}
+use Prim.Native.Nat.{ℕ}
+use lib.Dec.{eqb}
+use Rattle.format.specs.declared.SheetAnswer.{SheetAnswer}
+use Rattle.format.specs.declared.SheetAnswer.the-variants.{Accepted, Refused}
+
+-- What an answer says: whether the call is refused, and the number of the first no (0 where nothing is refused).
+pub record Outcome : Type 0 where
+  pub refused : Bool
+  pub number : ℕ
+
+-- The outcome of questions whose first no is k, 0 for none.
+abbrev pub outcomeOf : ℕ → Outcome
+outcomeOf k = record { refused = not (eqb k 0); number = k }
+
+-- The cases of check_sheet's answer.
+abbrev pub sheetOutcome : SheetAnswer → Outcome
+sheetOutcome Accepted = record { refused = false; number = 0 }
+sheetOutcome (Refused k) = record { refused = true; number = k }
+
+-- an outcome fixes the answer, constructor and number: so a refusal with number 0 is no answer to any sheet
+pub sheet-outcome-fixes : (a b : SheetAnswer) → sheetOutcome a ≡ sheetOutcome b → a ≡ b
+sheet-outcome-fixes Accepted Accepted e = refl
+sheet-outcome-fixes Accepted (Refused k) e = absurd (true≢false (λ i. mathlib.Core.Path.sym e i .refused))
+sheet-outcome-fixes (Refused k) Accepted e = absurd (true≢false (λ i. e i .refused))
+sheet-outcome-fixes (Refused k) (Refused m) e = λ i. Refused (e i .number)

@@ -1,0 +1,31 @@
+-- The plate of a sheet and a choice, as bytes (document 01, "Sheet and plate as bytes"). Assumes nothing.
+use mathlib.Core.Bool.{Bool, cond}
+use mathlib.Core.List.{List, [], _∷_, _++_}
+use Prim.Native.Nat.{ℕ, zero, suc}
+use lib.ListN.{length}
+use Rattle.labeling.specs.Points.{Points, Choice, Placed, outside, placed}
+use Rattle.format.specs.Sheet.{pointCount, pointsOf}
+
+-- "Sections stand in a fixed order, each after its one-byte count": a count and the bytes after it.
+
+-- The inside positions below m, "ascending".
+unfoldable pub insideBelow : Choice → ℕ → List ℕ
+insideBelow S zero = []
+insideBelow S (suc m) = insideBelow S m ++ cond (S m) (m ∷ []) []
+
+-- "the inside count and one byte for each inside position, ascending": the list of a choice.
+unfoldable pub insideSection : List ℕ → Choice → List ℕ
+insideSection s S = let l = insideBelow S (pointCount s) in length l ∷ l
+
+-- "for each outside point from the highest row down, its position and its margin column, a byte each"
+unfoldable pub pairs : List Placed → List ℕ
+pairs [] = []
+pairs (p ∷ l) = p .position ∷ p .margin ∷ pairs l
+
+-- "then the outside count and, for each outside point ..."
+unfoldable pub outsideSection : List ℕ → Choice → List ℕ
+outsideSection s S = let l = outside (pointsOf s) S in length l ∷ pairs (placed (pointsOf s) l)
+
+-- "Plate: the sheet's bytes; then" the two sections.
+unfoldable pub plateOf : List ℕ → Choice → List ℕ
+plateOf s S = s ++ insideSection s S ++ outsideSection s S

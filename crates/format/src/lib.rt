@@ -1,0 +1,211 @@
+// The bytes of sheets and plates.
+ghost use mathlib.Core.Path.{_≡_};
+ghost use Prim.Native.Nat.{_+_, _*_, _<_};
+ghost use mathlib.Core.Bool.{_&&_};
+ghost use lib.Dec.{ltb};
+ghost use lib.ListN.{length, getD};
+ghost use Rattle.format.specs.Sheet.{twoBytes, mapWidth, mapHeight, labelWidth, labelHeight, pointCount, callNumber, column as columnOf, row as rowOf, upTo, unlikeEarlier, pointNo, pointsNo, questionsNo, sheetNo};
+ghost use Rattle.format.specs.Answers.{sheetOutcome, outcomeOf};
+
+// What check_sheet answers: the sheet is accepted, or refused with the number of its first no.
+pub enum SheetAnswer {
+    Accepted,
+    Refused(u8),
+}
+
+// A byte as a wider number.
+fn wide(b: u8) -> u16
+    ensures { λ r. ⌜ (r ≡ b) × (r < 256) ⌝ }
+{
+    b as u16
+}
+
+// The byte at a place, 0 past the end.
+pub fn byte_at(bytes: &[u8], at: usize) -> u8
+    ensures { λ r. ⌜ r ≡ getD (now (bytes .entry)) at 0 ⌝ }
+{
+    if at < bytes.len() {
+        return bytes[at];
+    }
+    0
+}
+
+// The two-byte number at a place of at most 65,535, low byte first.
+fn two_bytes(bytes: &[u8], at: usize) -> u16
+    requires { ⌜ at < 65536 ⌝ }
+    ensures { λ r. ⌜ r ≡ twoBytes (now (bytes .entry)) at ⌝ }
+{
+    wide(byte_at(bytes, at)) + 256 * wide(byte_at(bytes, at + 1))
+}
+
+pub fn map_width(sheet: &[u8]) -> u16
+    ensures { λ r. ⌜ r ≡ mapWidth (now (sheet .entry)) ⌝ }
+{
+    two_bytes(sheet, 1)
+}
+
+pub fn map_height(sheet: &[u8]) -> u16
+    ensures { λ r. ⌜ r ≡ mapHeight (now (sheet .entry)) ⌝ }
+{
+    two_bytes(sheet, 3)
+}
+
+pub fn label_width(sheet: &[u8]) -> u16
+    ensures { λ r. ⌜ r ≡ labelWidth (now (sheet .entry)) ⌝ }
+{
+    two_bytes(sheet, 5)
+}
+
+pub fn label_height(sheet: &[u8]) -> u16
+    ensures { λ r. ⌜ r ≡ labelHeight (now (sheet .entry)) ⌝ }
+{
+    two_bytes(sheet, 7)
+}
+
+pub fn point_count(sheet: &[u8]) -> u8
+    ensures { λ r. ⌜ r ≡ pointCount (now (sheet .entry)) ⌝ }
+{
+    byte_at(sheet, 9)
+}
+
+pub fn call_number(sheet: &[u8], position: u8) -> u16
+    ensures { λ r. ⌜ r ≡ callNumber (now (sheet .entry)) position ⌝ }
+{
+    two_bytes(sheet, 10 + 6 * position as usize)
+}
+
+pub fn column(sheet: &[u8], position: u8) -> u16
+    ensures { λ r. ⌜ r ≡ columnOf (now (sheet .entry)) position ⌝ }
+{
+    two_bytes(sheet, 12 + 6 * position as usize)
+}
+
+pub fn row(sheet: &[u8], position: u8) -> u16
+    ensures { λ r. ⌜ r ≡ rowOf (now (sheet .entry)) position ⌝ }
+{
+    two_bytes(sheet, 14 + 6 * position as usize)
+}
+
+// A number is 1 to most.
+fn up_to(most: u16, x: u16) -> bool
+    ensures { λ r. ⌜ r ≡ upTo most x ⌝ }
+{
+    if x < 1 {
+        return false;
+    }
+    x <= most
+}
+
+// Both sides are 1 to most.
+fn both_up_to(most: u16, x: u16, y: u16) -> bool
+    ensures { λ r. ⌜ r ≡ (upTo most x && upTo most y) ⌝ }
+{
+    if up_to(most, x) {
+        return up_to(most, y);
+    }
+    false
+}
+
+// The column and row of a position are on the map.
+fn on_map(sheet: &[u8], position: u8) -> bool
+    ensures { λ r. ⌜ r ≡ (ltb (columnOf (now (sheet .entry)) position) (mapWidth (now (sheet .entry))) && ltb (rowOf (now (sheet .entry)) position) (mapHeight (now (sheet .entry)))) ⌝ }
+{
+    if column(sheet, position) < map_width(sheet) {
+        return row(sheet, position) < map_height(sheet);
+    }
+    false
+}
+
+// The two-byte number at a place of the point (10: call number, 14: row) is unlike that of every earlier position.
+fn unlike_earlier(sheet: &[u8], place: usize, position: u8) -> bool
+    requires { ⌜ place < 16 ⌝ }
+    ensures { λ r. ⌜ r ≡ unlikeEarlier (λ j. twoBytes (now (sheet .entry)) (place + 6 * j)) position ⌝ }
+{
+    let own = two_bytes(sheet, place + 6 * position as usize);
+    let mut earlier: u8 = 0;
+    while earlier < position {
+        if two_bytes(sheet, place + 6 * earlier as usize) == own {
+            return false;
+        }
+        earlier += 1;
+    }
+    true
+}
+
+// The first no of 17 to 20 for one position, 0 for none.
+fn point_no(sheet: &[u8], position: u8) -> u8
+    ensures { λ r. ⌜ r ≡ pointNo (now (sheet .entry)) position ⌝ }
+{
+    if !up_to(9999, call_number(sheet, position)) {
+        return 17;
+    }
+    if !on_map(sheet, position) {
+        return 18;
+    }
+    if !unlike_earlier(sheet, 10, position) {
+        return 19;
+    }
+    if !unlike_earlier(sheet, 14, position) {
+        return 20;
+    }
+    0
+}
+
+// The first no of 17 to 20, point by point, 0 for none.
+fn points_no(sheet: &[u8]) -> u8
+    ensures { λ r. ⌜ r ≡ pointsNo (now (sheet .entry)) (pointCount (now (sheet .entry))) ⌝ }
+{
+    let n = point_count(sheet);
+    let mut position: u8 = 0;
+    while position < n {
+        let no = point_no(sheet, position);
+        if no != 0 {
+            return no;
+        }
+        position += 1;
+    }
+    0
+}
+
+// The first no of 11 to 20, 0 for none, where `fits` answers 16.
+fn questions_no(sheet: &[u8], fits: bool) -> u8
+    ensures { λ r. ⌜ r ≡ questionsNo (now (sheet .entry)) fits ⌝ }
+{
+    if sheet.len() < 10 {
+        return 11;
+    }
+    if byte_at(sheet, 0) != 1 {
+        return 12;
+    }
+    if !both_up_to(4096, map_width(sheet), map_height(sheet)) {
+        return 13;
+    }
+    if !both_up_to(256, label_width(sheet), label_height(sheet)) {
+        return 14;
+    }
+    if point_count(sheet) > 32 {
+        return 15;
+    }
+    if !fits {
+        return 16;
+    }
+    points_no(sheet)
+}
+
+// The sheet's bytes that its point count asks for.
+fn sheet_length(sheet: &[u8]) -> usize
+    ensures { λ r. ⌜ (r ≡ 10 + 6 * pointCount (now (sheet .entry))) × (r < 2000) ⌝ }
+{
+    10 + 6 * point_count(sheet) as usize
+}
+
+// The sheet's questions, 11 to 20, in their order.
+pub fn check_sheet(sheet: &[u8]) -> SheetAnswer
+    ensures { λ r. ⌜ sheetOutcome r ≡ outcomeOf (sheetNo (now (sheet .entry))) ⌝ }
+{
+    let no = questions_no(sheet, sheet.len() == sheet_length(sheet));
+    if no == 0 {
+        return SheetAnswer::Accepted;
+    }
+    SheetAnswer::Refused(no)
+}

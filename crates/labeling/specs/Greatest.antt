@@ -1,0 +1,127 @@
+-- The best is reached by a valid choice, and no valid choice exceeds it; any number with these two properties is the best.
+-- Assumes nothing.
+use mathlib.Core.Path.{_≡_, refl, sym, _∙_, ap}
+use mathlib.Core.Bool.{Bool, true, false, cond}
+use mathlib.Core.Logic.{_⊎_, inl, inr}
+use Prim.Native.Nat.{ℕ, zero, suc, _+_, _≤_, _<_, max, pred}
+use lib.Dec.{ltb, leb, eqb}
+use borrow.Author.Tests.{ltb-true, ltb-false, leb-true, leb-false, eq-eqb, ne-eqb}
+use native.Mathlib.Omega.{arith}
+use Rattle.labeling.specs.Points.{Points, Choice, DistinctRows}
+use Rattle.labeling.specs.Marks.{Valid}
+use Rattle.labeling.specs.Conflicts.{validB}
+use Rattle.labeling.specs.Tests.{clash, decide, same, Decides}
+use Rattle.labeling.specs.Pixels.{dec-valid, nothing-inside}
+use Rattle.labeling.specs.Best.{weight, count, oneEach, Best, Agree, OnlyBest, put, bestFrom, best, bestCount, bestChoiceFrom, bestChoice}
+use Rattle.labeling.specs.Agree.{agree-sym, valid-agree, weight-agree}
+
+pub put-at : (S : Choice) (k : ℕ) (b : Bool) → put S k b k ≡ b
+unfolding put
+put-at S k b = rw (eq-eqb k k refl)
+
+pub put-off : (S : Choice) (k i : ℕ) (b : Bool) → (i ≡ k → ⊥) → put S k b i ≡ S i
+unfolding put
+put-off S k i b ne = rw (ne-eqb i k ne)
+
+-- R agrees with S from position m on
+abbrev pub From : Points → ℕ → Choice → Choice → Type 0
+From P m R S = (i : ℕ) → m ≤ i → i < P .n → R i ≡ S i
+
+pub from-put : (P : Points) (m : ℕ) (R S : Choice) (b : Bool) → R m ≡ b → From P (suc m) R S → From P m R (put S m b)
+from-put P m R S b e f i l u = same i m
+    (λ q. rw (q, put-at S m b) e)
+    (λ ne. f i (omega arith) u ∙ sym (put-off S m i b ne))
+
+most-from : (P : Points) (v : ℕ → ℕ) (m : ℕ) (S R : Choice) → 1 ≤ P .w → Valid P R → From P m R S → weight P v R < bestFrom P v m S
+unfolding bestFrom
+most-from P v zero S R pos ok f =
+    let a : Agree P R S = record { at = λ i l. f i (omega arith) l } in
+    let e : validB P S ≡ true = dec-valid P S pos .of (valid-agree P R S a ok) in
+    rw (e, weight-agree P v R S a) (omega arith)
+most-from P v (suc m) S R pos ok f =
+    decide (R m)
+    (λ e. let ih = most-from P v m (put S m true) R pos ok (from-put P m R S true e f) in omega arith)
+    (λ e. let ih = most-from P v m (put S m false) R pos ok (from-put P m R S false e f) in omega arith)
+
+-- A valid choice whose weight is one less than t.
+pub record Reaches (P : Points) (v : ℕ → ℕ) (t : ℕ) : Type 0 where
+  pub choice : Choice
+  pub valid : Valid P choice
+  pub weighs : suc (weight P v choice) ≡ t
+
+-- bestChoiceFrom is valid and has the weight that bestFrom says
+chosen-from : (P : Points) (v : ℕ → ℕ) (m : ℕ) (S : Choice) → 1 ≤ P .w → 1 ≤ bestFrom P v m S → Valid P (bestChoiceFrom P v m S) × (suc (weight P v (bestChoiceFrom P v m S)) ≡ bestFrom P v m S)
+unfolding bestFrom bestChoiceFrom
+chosen-from P v zero S pos l =
+    decide (validB P S)
+    (λ e. (dec-valid P S pos .is e, rw e))
+    (λ e. let z : 1 ≤ 0 = rw e at l in absurd (omega arith))
+chosen-from P v (suc m) S pos l =
+    decide (leb y x)
+    (λ e.
+    let k : y ≤ x = leb-true y x e in
+    let r = chosen-from P v m (put S m true) pos (omega arith) in
+    rw e (r .0, r .1 ∙ omega arith))
+    (λ e.
+    let k : x < y = leb-false y x e in
+    let r = chosen-from P v m (put S m false) pos (omega arith) in
+    rw e (r .0, r .1 ∙ omega arith))
+  where
+    x : ℕ
+    x = bestFrom P v m (put S m true)
+
+    y : ℕ
+    y = bestFrom P v m (put S m false)
+
+-- NO VALID CHOICE EXCEEDS IT
+pub best-most : (P : Points) (v : ℕ → ℕ) (R : Choice) → 1 ≤ P .w → Valid P R → weight P v R < best P v
+unfolding best
+best-most P v R pos ok = most-from P v (P .n) (λ i. false) R pos ok (λ i l u. absurd (omega arith))
+
+-- IT IS REACHED, unless it is 0: by bestChoice
+pub best-reached : (P : Points) (v : ℕ → ℕ) → 1 ≤ P .w → 1 ≤ best P v → Reaches P v (best P v)
+unfolding best bestChoice
+best-reached P v pos l =
+    let r = chosen-from P v (P .n) (λ i. false) pos l in record { choice = bestChoice P v; valid = r .0; weighs = r .1 }
+
+-- and it is 0 just where no choice is valid
+pub best-none : (P : Points) (v : ℕ → ℕ) (R : Choice) → 1 ≤ P .w → best P v ≡ 0 → Valid P R → ⊥
+best-none P v R pos e ok = omega (arith, best-most P v R pos ok)
+
+-- a valid choice of this weight is best
+pub best-is : (P : Points) (v : ℕ → ℕ) (S : Choice) → 1 ≤ P .w → Valid P S → suc (weight P v S) ≡ best P v → Best P v S
+best-is P v S pos ok e = record { valid = ok; most = λ R a. omega (arith, best-most P v R pos a) }
+
+-- bestChoice is a best choice
+pub bestChoice-best : (P : Points) (v : ℕ → ℕ) → 1 ≤ P .w → 1 ≤ best P v → Best P v (bestChoice P v)
+unfolding best bestChoice
+bestChoice-best P v pos l =
+    let r = chosen-from P v (P .n) (λ i. false) pos l in best-is P v (bestChoice P v) pos (r .0) (r .1)
+
+-- a best choice has this weight
+pub best-of : (P : Points) (v : ℕ → ℕ) (S : Choice) → 1 ≤ P .w → Best P v S → best P v ≡ suc (weight P v S)
+best-of P v S pos b =
+    let u = best-most P v S pos (b .valid) in
+    let r = best-reached P v pos (omega arith) in
+    let q : suc (weight P v (r .choice)) ≡ best P v = r .weighs in
+    let m : weight P v (r .choice) ≤ weight P v S = b .most (r .choice) (r .valid) in
+    omega arith
+
+-- ANY NUMBER WITH THESE TWO PROPERTIES IS THE BEST
+pub best-unique : (P : Points) (v : ℕ → ℕ) (t : ℕ) → 1 ≤ P .w → Reaches P v t → ((R : Choice) → Valid P R → weight P v R < t) → best P v ≡ t
+best-unique P v t pos r f =
+    let q : suc (weight P v (r .choice)) ≡ t = r .weighs in
+    let u : weight P v (r .choice) < best P v = best-most P v (r .choice) pos (r .valid) in
+    let s = best-reached P v pos (omega arith) in
+    let y : suc (weight P v (s .choice)) ≡ best P v = s .weighs in
+    let z : weight P v (s .choice) < t = f (s .choice) (s .valid) in
+    omega arith
+
+-- with distinct rows there is a valid choice, so the best is not 0
+pub some-best : (P : Points) (v : ℕ → ℕ) → 1 ≤ P .w → DistinctRows P → 1 ≤ best P v
+some-best P v pos d = let u = best-most P v (λ i. false) pos (nothing-inside P d) in omega arith
+
+-- the count of a best choice is the best count
+pub best-counts : (P : Points) (S : Choice) → 1 ≤ P .w → Best P oneEach S → count P S ≡ bestCount P
+unfolding count bestCount
+best-counts P S pos b = rw (best-of P oneEach S pos b) (omega arith)

@@ -1,0 +1,13 @@
+pub mod Points
+pub mod Marks
+pub mod Conflicts
+pub mod Best
+pub mod Tests
+pub mod Margin
+pub mod Order
+pub mod Pixels
+pub mod ConflictTable
+pub mod Agree
+pub mod Greatest
+pub mod Only
+pub mod Looks
