@@ -12,20 +12,6 @@ use Rattle.labeling.specs.Tests.{clash, decide, same, every-is}
 use Rattle.format.specs.Answers.{Outcome, outcomeOf}
 use Rattle.format.specs.Sheet.{ask, unlikeEarlier, pointNo, pointsNo}
 
--- A QUESTION whose test is b: the answer is no, and its number is returned; or it is yes, and the later questions decide
-pub ask-no : (b : Bool) (k after : ℕ) → b ≡ false → k ≡ ask b k after
-ask-no b k after e = rw e
-
-pub ask-yes : (b : Bool) (k after x : ℕ) → b ≡ true → x ≡ after → x ≡ ask b k after
-ask-yes b k after x e q = rw e q
-
--- a result r that equals the test b, and the branch that was taken on `!r`
-pub off : (r b : Bool) → r ≡ b → not r ≡ true → b ≡ false
-off r b e t = sym e ∙ not-true r t
-
-pub on : (r b : Bool) → r ≡ b → not r ≡ false → b ≡ true
-on r b e t = sym e ∙ not-false r t
-
 -- two tests one after the other: the first fails, or the second decides
 pub and-no : (a b : Bool) → a ≡ false → false ≡ (a && b)
 and-no a b e = rw e

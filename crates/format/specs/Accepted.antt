@@ -38,13 +38,13 @@ pub record NoneOf (no : ℕ) (A : Type 0) : Type 0 where
   pub of : A → no ≡ 0
 
 -- A question and those after it are all answered yes.
-none-ask : {b : Bool} {after : ℕ} {A B : Type 0} (k : ℕ) → 1 ≤ k → Decides b A → NoneOf after B → NoneOf (ask b k after) (A × B)
+pub none-ask : {b : Bool} {after : ℕ} {A B : Type 0} (k : ℕ) → 1 ≤ k → Decides b A → NoneOf after B → NoneOf (ask b k after) (A × B)
 none-ask {b} k pos d e = record {
   is = λ z. decide b (λ t. (d .is t, e .is (rw t at z))) (λ t. let q : k ≡ 0 = rw t at z in absurd (omega arith));
   of = λ y. let t : b ≡ true = d .of (y .0) in rw t (e .of (y .1));
 }
 
-none-left : NoneOf 0 (Unit {0})
+pub none-left : NoneOf 0 (Unit {0})
 none-left = record { is = λ e. tt; of = λ t. refl }
 
 pub dec-upTo : (most x : ℕ) → Decides (upTo most x) ((1 ≤ x) × (x ≤ most))

@@ -1,5 +1,5 @@
 -- For each case of an answer, document 01's number and values. Assumes nothing.
-use mathlib.Core.Path.{_≡_, refl, ap}
+use mathlib.Core.Path.{_≡_, refl, sym, ap, _∙_}
 use mathlib.Core.Bool.{Bool, true, false, not, true≢false}
 use Prim.Native.Nat.{ℕ}
 use lib.Dec.{eqb}
@@ -23,6 +23,16 @@ sheetOutcome (Refused k) = record { refused = true; number = k }
 -- an outcome fixes the answer, constructor and number: so a refusal with number 0 is no answer to any sheet
 pub sheet-outcome-fixes : (a b : SheetAnswer) → sheetOutcome a ≡ sheetOutcome b → a ≡ b
 sheet-outcome-fixes Accepted Accepted e = refl
-sheet-outcome-fixes Accepted (Refused k) e = absurd (true≢false (λ i. mathlib.Core.Path.sym e i .refused))
+sheet-outcome-fixes Accepted (Refused k) e = absurd (true≢false (λ i. sym e i .refused))
 sheet-outcome-fixes (Refused k) Accepted e = absurd (true≢false (λ i. e i .refused))
 sheet-outcome-fixes (Refused k) (Refused m) e = λ i. Refused (e i .number)
+
+-- READING THE CONTRACT of check_sheet, where m is the sheet's first no
+
+pub accepted-none : (a : SheetAnswer) (m : ℕ) → sheetOutcome a ≡ outcomeOf m → a ≡ Accepted → m ≡ 0
+accepted-none a m e q = sym (λ i. (ap sheetOutcome (sym q) ∙ e) i .number)
+
+pub refused-no : (a : SheetAnswer) (k m : ℕ) → sheetOutcome a ≡ outcomeOf m → a ≡ Refused k → (k ≡ m) × (m ≡ 0 → ⊥)
+refused-no a k m e q =
+    let f : sheetOutcome (Refused k) ≡ outcomeOf m = ap sheetOutcome (sym q) ∙ e in
+    (λ i. f i .number, λ z. true≢false (λ i. (f ∙ ap outcomeOf z) i .refused))

@@ -1,4 +1,5 @@
 pub mod Sheet
+pub mod Asking
 pub mod Plate
 pub mod Answers
 pub mod Accepted

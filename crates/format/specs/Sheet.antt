@@ -57,6 +57,10 @@ pointsOf s = record {
 abbrev pub ask : Bool → ℕ → ℕ → ℕ
 ask answer number after = cond answer after number
 
+-- The first no of two lists of questions, asked one after the other: the first list's, unless that is 0.
+abbrev pub thenNo : ℕ → ℕ → ℕ
+thenNo first later = cond (eqb first 0) later first
+
 -- "Map sides are 1 to 4,096, label sides 1 to 256, ... call numbers 1 to 9,999."
 abbrev pub upTo : ℕ → ℕ → Bool
 upTo most x = leb 1 x && leb x most
@@ -78,7 +82,7 @@ pointNo s i =
 -- "Point by point": the first no of the positions below m.
 unfoldable pub pointsNo : List ℕ → ℕ → ℕ
 pointsNo s zero = 0
-pointsNo s (suc m) = cond (eqb (pointsNo s m) 0) (pointNo s m) (pointsNo s m)
+pointsNo s (suc m) = thenNo (pointsNo s m) (pointNo s m)
 
 -- "Are there at least 10 bytes? 11. Is the first byte 1? 12. Are both map sides allowed? 13. Both label sides? 14. Is n at most 32? 15.
 -- Is the length 10 + 6n? 16. (In a plate: at least that.)" and then point by point. `fits` answers 16.

@@ -11,3 +11,14 @@ pub mod Agree
 pub mod Greatest
 pub mod Only
 pub mod Looks
+pub mod Recurrence
+pub mod RecurrenceTests
+pub mod States
+pub mod NoBetter
+pub mod Recovered
+pub mod Reached
+pub mod Totals
+pub mod Optimum
+pub mod Sums
+pub mod Positions
+pub mod Comparisons

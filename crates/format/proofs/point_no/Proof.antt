@@ -1,7 +1,7 @@
 use borrow.Author.Needs.{needs}
 use mathlib.Core.Path.{refl, ap, _∙_}
 use Rattle.format.specs.Sheet.{upTo, pointNo}
-use Rattle.format.proofs.Laws.{ask-no, ask-yes, off, on}
+use Rattle.format.specs.Asking.{ask-no, ask-yes, off, on}
 use Rattle.format.proofs.point_no.Statement.{statement}
 use Rattle.format.proofs.point_no.Tie as tie
 use Rattle.format.proofs.point_no.Reads as reads

@@ -4,7 +4,7 @@ use lib.Dec.{leb}
 use mathlib.Core.Bool.{_&&_}
 use mathlib.Core.Path.{sym, ap, ap₂, _∙_}
 use Rattle.format.specs.Sheet.{upTo, questionsNo}
-use Rattle.format.proofs.Laws.{ask-no, ask-yes, off, on}
+use Rattle.format.specs.Asking.{ask-no, ask-yes, off, on}
 use Rattle.format.proofs.questions_no.Statement.{statement}
 use Rattle.format.proofs.questions_no.Tie as tie
 use Rattle.format.proofs.questions_no.Reads as reads

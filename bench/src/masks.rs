@@ -1,0 +1,191 @@
+//! A variant of the yardstick: the same recurrence, table and recovery, with
+//! sets of points as bits of a word. The loop visits open points alone, and
+//! every test of two points is a bit.
+
+use crate::baseline::{get, place, put};
+use crate::plate::{check_make, write_plate, Points, PLACES};
+
+/// Arrays are longer than needed, so that an index of six bits is in range.
+const LONG: usize = 64;
+
+struct Map {
+    n: usize,
+    rank: [u8; LONG],
+    order: [u8; LONG],
+    /// The topmost label that reaches over i's row on its right, or 0: also the
+    /// greatest j < i that is right of i and meets its label.
+    low: [u8; LONG],
+    /// The least j > i that is right of i and meets its label, or n + 1.
+    high: [u8; LONG],
+    /// The least j > i whose row i's label doesn't reach, or n + 1.
+    clear: [u8; LONG],
+    /// The points whose labels meet i's label.
+    meet: [u64; LONG],
+    /// The points whose labels reach over i's row from below, on its right.
+    over: [u64; LONG],
+}
+
+/// The members of a set, ascending.
+fn members(mut set: u64) -> impl Iterator<Item = usize> {
+    std::iter::from_fn(move || {
+        let least = set.trailing_zeros() as usize;
+        set &= set.wrapping_sub(1);
+        (least < LONG).then_some(least)
+    })
+}
+
+/// The greatest member of a set, or 0.
+#[inline]
+fn greatest(set: u64) -> usize {
+    (63 - (set | 1).leading_zeros()) as usize
+}
+
+/// The numbers below k, for k < 64.
+#[inline]
+fn below(k: usize) -> u64 {
+    (1 << (k % LONG)) - 1
+}
+
+impl Map {
+    fn new(points: &Points) -> Map {
+        let n = points.n;
+        let mut map = Map {
+            n,
+            rank: [n as u8; LONG],
+            order: [0; LONG],
+            low: [0; LONG],
+            high: [n as u8 + 1; LONG],
+            clear: [n as u8 + 1; LONG],
+            meet: [0; LONG],
+            over: [0; LONG],
+        };
+        map.rank[..PLACES].copy_from_slice(&points.rank);
+        map.order[..points.order.len()].copy_from_slice(&points.order);
+        let Points { w, h, .. } = *points;
+        let (column, row) = (&points.column[..=n], &points.row[..=n]);
+        for j in 1..=n {
+            // Upwards from j, as long as its label reaches over the row.
+            for i in j + 1..=n {
+                if row[i] >= row[j] + h {
+                    map.clear[j] = i as u8;
+                    break;
+                }
+                if column[i].abs_diff(column[j]) < w {
+                    map.meet[i] |= 1 << j;
+                    map.meet[j] |= 1 << i;
+                    if column[i] < column[j] {
+                        map.over[i] |= 1 << j;
+                    } else if usize::from(map.high[j]) > i {
+                        map.high[j] = i as u8;
+                    }
+                }
+            }
+        }
+        for i in 1..=n {
+            map.low[i] = greatest(map.over[i]) as u8;
+        }
+        map
+    }
+
+    #[inline]
+    fn limit(&self, a: usize, b: usize) -> usize {
+        usize::from(self.rank[a].min(self.rank[b]))
+    }
+
+    #[inline]
+    fn reach(&self, a: usize, p: usize, q: usize) -> usize {
+        let top = usize::from(self.low[p % LONG]);
+        let hung = self.over[p % LONG] >> (q % LONG) & 1;
+        if top > a {
+            top
+        } else {
+            q * hung as usize
+        }
+    }
+
+    #[inline]
+    fn good(&self, a: usize, b: usize, q: usize, i: usize) -> bool {
+        let i = i % LONG;
+        (usize::from(self.low[i]) <= a)
+            & (b <= usize::from(self.high[i]))
+            & (usize::from(self.clear[i]) <= b)
+            & (self.meet[i] >> (q % LONG) & 1 == 0)
+    }
+
+    /// The best of a slab, its open points given by their ranks.
+    #[inline]
+    fn entry(&self, table: &[[u16; 4]], (a, b, q): (usize, usize, usize), open: u64) -> u64 {
+        let (mut best, mut acc) = (0, 0);
+        let mut open = open;
+        while open != 0 {
+            let k = greatest(open);
+            open ^= 1 << k;
+            let p = usize::from(self.order[k]) % LONG;
+            let lower = get(table, place(a, p, q));
+            let upper = get(table, place(p, b, self.reach(a, p, q)));
+            best = best.max(acc + lower + upper);
+            if !self.good(a, b, q, p) {
+                return best;
+            }
+            acc += 1;
+        }
+        best.max(acc)
+    }
+
+    fn fill(&self, table: &mut [[u16; 4]]) {
+        for b in 1..=self.n + 1 {
+            // The ranks of the points strictly between a and b.
+            let mut between = 0;
+            for a in (0..b).rev() {
+                let open = between & below(self.limit(a, b));
+                for q in members(self.over[a] | 1) {
+                    let value = self.entry(table, (a, b, q), open);
+                    put(table, place(a, b, q), value);
+                }
+                between |= 1u64 << (self.rank[a] % 64);
+            }
+        }
+    }
+
+    /// Puts a slab's points inside down to its rightmost outside one, and cuts
+    /// it there.
+    fn slab(
+        &self,
+        table: &[[u16; 4]],
+        inside: &mut [bool; PLACES],
+        (a, b, q): (usize, usize, usize),
+    ) {
+        let want = get(table, place(a, b, q));
+        let mut acc = 0;
+        for k in (0..self.limit(a, b)).rev() {
+            let p = usize::from(self.order[k]);
+            if p <= a || b <= p {
+                continue;
+            }
+            let reach = self.reach(a, p, q);
+            let lower = get(table, place(a, p, q));
+            let upper = get(table, place(p, b, reach));
+            if acc + lower + upper == want {
+                self.slab(table, inside, (a, p, q));
+                self.slab(table, inside, (p, b, reach));
+                return;
+            }
+            inside[p] = true;
+            acc += 1;
+        }
+    }
+}
+
+/// Makes a best plate; its length, or the number of the refusal.
+pub fn make(sheet: &[u8], output: &mut [u8], workspace: &mut [u16]) -> Result<usize, u8> {
+    let n = check_make(sheet, output, workspace)?;
+    let points = Points::new(sheet, n);
+    let map = Map::new(&points);
+    let (table, _) = workspace.as_chunks_mut::<4>();
+    map.fill(table);
+    let mut inside = [false; PLACES];
+    map.slab(table, &mut inside, (0, n + 1, 0));
+    let written = write_plate(sheet, &points, &inside, output);
+    workspace.fill(0);
+    Ok(written)
+}

@@ -1,0 +1,153 @@
+//! The yardstick against a search over all choices, by the conflicts of pairs.
+
+use crate::plate::WORKSPACE;
+use crate::sheets::{any, families, sheet, Random};
+use crate::{baseline, masks};
+
+type Make = fn(&[u8], &mut [u8], &mut [u16]) -> Result<usize, u8>;
+const MAKERS: [Make; 3] = [baseline::make, baseline::make_with_lists, masks::make];
+
+fn made(make: Make, sheet: &[u8]) -> Result<Vec<u8>, u8> {
+    let mut output = vec![0xa5; 300];
+    let mut workspace = vec![0x5a5a; WORKSPACE + 3];
+    let answer = make(sheet, &mut output, &mut workspace);
+    let Ok(written) = answer else {
+        assert!(output.iter().all(|&byte| byte == 0xa5));
+        assert!(workspace.iter().all(|&number| number == 0x5a5a));
+        return answer.map(|_| vec![]);
+    };
+    assert!(output[written..].iter().all(|&byte| byte == 0xa5));
+    assert!(workspace.iter().all(|&number| number == 0));
+    output.truncate(written);
+    Ok(output)
+}
+
+/// Label sides, and column and row of each point.
+fn read(sheet: &[u8]) -> (i32, i32, Vec<(i32, i32)>) {
+    let number = |at: usize| i32::from(sheet[at]) + 256 * i32::from(sheet[at + 1]);
+    let at = |i: usize| (number(12 + 6 * i), number(14 + 6 * i));
+    let points = (0..usize::from(sheet[9])).map(at).collect();
+    (number(5), number(7), points)
+}
+
+/// The conflicts of optimum.md's table; bit i says whether i is inside.
+fn valid(sheet: &[u8], inside: u32) -> bool {
+    let (w, h, points) = read(sheet);
+    let is_in = |i: usize| inside >> i & 1 == 1;
+    let free = |i: usize, j: usize| {
+        let ((ci, ri), (cj, rj)) = (points[i], points[j]);
+        ri >= rj
+            || match (is_in(i), is_in(j)) {
+                (true, true) => rj >= ri + h || ci >= cj + w || cj >= ci + w,
+                (true, false) => rj >= ri + h || ci > cj,
+                _ => true,
+            }
+    };
+    (0..points.len()).all(|i| (0..points.len()).all(|j| free(i, j)))
+}
+
+fn best(sheet: &[u8]) -> u32 {
+    let counts = (0..1u32 << sheet[9]).filter(|&inside| valid(sheet, inside));
+    counts.map(u32::count_ones).max().unwrap()
+}
+
+/// Checks all of a plate but that it is best; its inside count.
+fn count_of(sheet: &[u8], plate: &[u8]) -> u32 {
+    let (_, h, points) = read(sheet);
+    let (start, rest) = plate.split_at(sheet.len());
+    assert_eq!(start, sheet);
+    let (inside, rest) = rest[1..].split_at(usize::from(rest[0]));
+    assert!(inside.windows(2).all(|pair| pair[0] < pair[1]));
+    assert!(inside.iter().all(|&i| usize::from(i) < points.len()));
+    let choice = inside.iter().fold(0, |choice, &i| choice | 1 << i);
+    assert!(valid(sheet, choice));
+    let mut outside: Vec<usize> = (0..points.len()).filter(|i| choice >> i & 1 == 0).collect();
+    outside.sort_by_key(|&i| -points[i].1);
+    let mut expected = vec![outside.len() as u8];
+    let mut column = 0;
+    for (k, &i) in outside.iter().enumerate() {
+        let near = k > 0 && points[outside[k - 1]].1 - points[i].1 < h;
+        column = if near { column + 1 } else { 0 };
+        expected.extend([i as u8, column]);
+    }
+    assert_eq!(rest, expected);
+    inside.len() as u32
+}
+
+#[test]
+fn p1() {
+    let sheet = [
+        1, 20, 0, 10, 0, 4, 0, 2, 0, 3, 17, 0, 2, 0, 3, 0, 18, 0, 4, 0, 4, 0, 19, 0, 10, 0, 7, 0,
+    ];
+    for make in MAKERS {
+        let plate = made(make, &sheet).unwrap();
+        assert_eq!(plate[28..], [2, 1, 2, 1, 0, 0]);
+    }
+}
+
+#[test]
+fn best_of_all_choices() {
+    let mut random = Random::new(2021);
+    for round in 0..6000 {
+        let n = if round % 20 == 0 { 10 } else { round % 8 };
+        let bytes = if round % 2 == 0 {
+            any(&mut random, n)
+        } else {
+            // Tiny maps, where labels meet in every way.
+            let map = (random.within(1, 8), random.within(n.max(1), n + 3));
+            let label = (random.within(1, 6), random.within(1, 5));
+            let mut rows: Vec<usize> = (0..map.1).collect();
+            while rows.len() > n {
+                rows.remove(random.within(0, rows.len() - 1));
+            }
+            let column = |row| (random.within(0, map.0 - 1), row);
+            let points = rows.into_iter().map(column).collect();
+            sheet(&mut random, map, label, points)
+        };
+        let best = best(&bytes);
+        for make in MAKERS {
+            assert_eq!(count_of(&bytes, &made(make, &bytes).unwrap()), best);
+        }
+    }
+}
+
+#[test]
+fn families_are_made() {
+    for family in families(20) {
+        for bytes in &family.sheets {
+            assert_eq!(usize::from(bytes[9]), family.points);
+            let counts = MAKERS.map(|make| count_of(bytes, &made(make, bytes).unwrap()));
+            assert!(counts.iter().all(|count| *count == counts[0]));
+        }
+    }
+}
+
+#[test]
+fn refusals() {
+    let good = any(&mut Random::new(7), 3);
+    let refused = |at: usize, value: u8| {
+        let mut bytes = good.clone();
+        bytes[at] = value;
+        baseline::make(&bytes, &mut [0; 300], &mut [0; WORKSPACE])
+    };
+    assert_eq!(baseline::make(&good[..9], &mut [], &mut []), Err(11));
+    assert_eq!(refused(0, 2), Err(12));
+    assert_eq!(refused(2, 17), Err(13));
+    assert_eq!(refused(8, 2), Err(14));
+    assert_eq!(refused(9, 33), Err(15));
+    assert_eq!(refused(9, 4), Err(16));
+    assert_eq!(refused(11, 0x28), Err(17));
+    assert_eq!(refused(15, 0x20), Err(18));
+    let mut bytes = good.clone();
+    bytes.copy_within(10..12, 16);
+    assert_eq!(made(baseline::make, &bytes), Err(19));
+    bytes.clone_from(&good);
+    bytes.copy_within(14..16, 26);
+    assert_eq!(made(baseline::make, &bytes), Err(20));
+    let mut workspace = [0; WORKSPACE];
+    let answer = baseline::make(&good, &mut [0; 35], &mut workspace);
+    assert_eq!(answer, Err(21));
+    let answer = baseline::make(&good, &mut [0; 36], &mut workspace[1..]);
+    assert_eq!(answer, Err(22));
+    assert!(baseline::make(&good, &mut [0; 36], &mut workspace).is_ok());
+}

@@ -1,0 +1,52 @@
+-- `plate_maker::filling::fill_slab` meets its contract: q ascends. Assumes nothing.
+use Rattle.plate_maker.specs.Filling.{filling-first, filling-last}
+use Rattle.plate_maker.specs.Table.{Filling}
+use Rattle.plate_maker.specs.Arrays.{heightsOf}
+use lib.ListN.{length}
+use Prim.Native.Nat.{_+_, _-_, _≤_}
+use mathlib.Core.Path.{_≡_, refl, _∙_}
+use borrow.Author.Needs.{needs}
+use native.Mathlib.Omega.{arith}
+use Rattle.plate_maker.proofs.filling.fill_slab.Statement.{statement}
+use Rattle.plate_maker.proofs.filling.fill_slab.Tie as tie
+
+abbrev Inv-loop : tie.InvT-loop
+Inv-loop s table₀ a b q₀ table q = (q ≤ a + 1) × (length table ≡ length table₀) × Filling (heightsOf s) table a b q
+
+abbrev μ-loop : tie.MeasureT-loop
+μ-loop s table₀ a b q₀ table q = a + 1 - q
+
+loop-holds : tie.Need-loop-holds Inv-loop μ-loop
+loop-holds c = (omega arith, refl, filling-first (c .before .pre .4) (c .before .pre .5))
+
+fill-entry-requires : tie.Need-fill-entry-requires Inv-loop μ-loop
+fill-entry-requires c κs = (c .before .before .before .before .pre .0, omega (arith, c .before .before .loop .inv .1, c .before .before .before .before .pre .1), c .before .loop-test .taken, c .before .before .before .before .pre .2, c .before .before .before .before .pre .3, c .before .before .loop .inv .2)
+
+add-q : tie.Need-add-q Inv-loop μ-loop
+add-q c = search needs
+
+loop-less : tie.Need-loop-less Inv-loop μ-loop
+loop-less c = search needs
+
+loop-again : tie.Need-loop-again Inv-loop μ-loop
+loop-again c = (omega arith, c .before .before .fill-entry .ensures .0 ∙ c .before .before .before .before .before .loop .inv .1, c .before .before .fill-entry .ensures .1)
+
+same-length : tie.Need-same-length Inv-loop μ-loop
+same-length c = c .before .loop .inv .1
+
+returns : tie.Need-returns Inv-loop μ-loop
+returns c = (c .before .loop .inv .1, c .before .loop .inv .2 .rows, filling-last (c .loop-test .left) (c .before .loop .inv .2))
+
+pub fill-slab-spec : {M : Type 1} → statement M
+fill-slab-spec =
+    tie.close
+    (tie.spec
+    Inv-loop
+    μ-loop
+    loop-holds
+    fill-entry-requires
+    add-q
+    loop-less
+    loop-again
+    same-length
+    returns)

@@ -1,0 +1,20 @@
+-- `plate_maker::writing::margin_after` meets its contract. Assumes nothing.
+use borrow.Author.Needs.{needs}
+use borrow.Author.Tests.{eq-eqb, ne-eqb}
+use Rattle.plate_maker.specs.Writing.{marginAfter}
+use Rattle.plate_maker.proofs.writing.margin_after.Statement.{statement}
+use Rattle.plate_maker.proofs.writing.margin_after.Tie as tie
+
+returns : tie.Need-returns
+unfolding marginAfter
+returns c = rw (eq-eqb (c .before .before .args .count) 0 (c .if1 .taken))
+
+next-margin-requires : tie.Need-next-margin-requires
+next-margin-requires c κs = search needs
+
+returns-2 : tie.Need-returns-2
+unfolding marginAfter
+returns-2 c = rw (ne-eqb (c .before .before .before .args .count) 0 (c .before .if1 .left)) (c .next-margin .ensures)
+
+pub margin-after-spec : {M : Type 1} → statement M
+margin-after-spec = tie.close (tie.spec returns next-margin-requires returns-2)

@@ -1,0 +1,62 @@
+-- The places of the table: an entry (a, b, q) with q ≤ a < b, by triangular and tetrahedral numbers.
+-- Assumes nothing.
+use mathlib.Core.Path.{_≡_, ap}
+use Prim.Native.Nat.{ℕ, zero, suc, _+_, _≤_, _<_}
+use native.Mathlib.Omega.{arith}
+use native.Mathlib.Decide.{le-ind}
+use Rattle.labeling.specs.RecurrenceTests.{less}
+
+-- The sum of the numbers below a.
+unfoldable pub tri : ℕ → ℕ
+tri zero = 0
+tri (suc a) = tri a + a
+
+-- The sum of the triangular numbers below b.
+unfoldable pub tet : ℕ → ℕ
+tet zero = 0
+tet (suc b) = tet b + tri b
+
+-- The place of the entry (a, b, q).
+unfoldable pub placeOf : ℕ → ℕ → ℕ → ℕ
+placeOf a b q = tet (suc b) + tri (suc a) + q
+
+-- HOW PLACES ARE APART
+
+-- Triangular and tetrahedral numbers rise.
+pub tri-mono : (a a′ : ℕ) → a ≤ a′ → tri a ≤ tri a′
+unfolding tri
+tri-mono a = le-ind (λ n. tri a ≤ tri n) (omega arith) (λ m h ih. omega arith)
+
+pub tet-mono : (b b′ : ℕ) → b ≤ b′ → tet b ≤ tet b′
+unfolding tet
+tet-mono b = le-ind (λ n. tet b ≤ tet n) (omega arith) (λ m h ih. omega arith)
+
+-- The places of a are below those of a′, and the places of b below those of b′.
+in-slab : (a a′ q : ℕ) → q ≤ a → a < a′ → tri (suc a) + q < tri (suc a′)
+unfolding tri
+in-slab a a′ q h k = omega (arith, tri-mono (suc (suc a)) (suc a′) (omega arith))
+
+in-row : (a b b′ q : ℕ) → q ≤ a → a < b → b < b′ → placeOf a b q < tet (suc b′)
+unfolding tet placeOf
+in-row a b b′ q h k l = omega (arith, tet-mono (suc (suc b)) (suc b′) (omega arith), in-slab a b q h k)
+
+-- A place of 32 points is below 6,545.
+pub place-below : (a b q : ℕ) → q ≤ a → a < b → b ≤ 33 → placeOf a b q < 6545
+unfolding tet tri
+place-below a b q h k l = omega (arith, in-row a b 34 q h k (omega arith))
+
+-- Two entries at one place are one entry.
+pub place-same : (a b q a′ b′ q′ : ℕ) → q ≤ a → a < b → q′ ≤ a′ → a′ < b′ → placeOf a b q ≡ placeOf a′ b′ q′ → (a ≡ a′) × (b ≡ b′) × (q ≡ q′)
+unfolding placeOf
+place-same a b q a′ b′ q′ qa ab qa′ ab′ e =
+    less b b′ (λ l. absurd (omega (arith, in-row a b b′ q qa ab l)))
+    (λ m. less b′ b (λ l. absurd (omega (arith, in-row a′ b′ b q′ qa′ ab′ l)))
+    (λ m′.
+    let eb : b ≡ b′ = omega arith in
+    let et : tet (suc b) ≡ tet (suc b′) = ap (λ (i : ℕ). tet (suc i)) eb in
+    less a a′ (λ l. absurd (omega (arith, in-slab a a′ q qa l)))
+    (λ k. less a′ a (λ l. absurd (omega (arith, in-slab a′ a q′ qa′ l)))
+    (λ k′.
+    let ea : a ≡ a′ = omega arith in
+    let er : tri (suc a) ≡ tri (suc a′) = ap (λ (i : ℕ). tri (suc i)) ea in
+    (ea, eb, omega arith)))))

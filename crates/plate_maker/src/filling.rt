@@ -1,0 +1,78 @@
+// Filling the table: the upper end ascends, the lower end descends within, and only the labels that reach over the lower end count.
+ghost use mathlib.Core.Path.{_≡_};
+ghost use Prim.Native.Nat.{_+_, _<_, _≤_};
+ghost use lib.ListN.{length};
+ghost use Rattle.plate_maker.specs.Arrays.{heightsOf, Packed};
+ghost use Rattle.plate_maker.specs.Table.{fitting, Room, Rows, Slabs, Filling};
+use crate::conflicts::reaches_over;
+use crate::points::PointArray;
+use crate::points::point_count;
+use crate::table::State;
+use crate::table::place;
+use crate::table::write_value;
+use crate::values::entry;
+
+// The table has an entry for q with the lower end a: q is 0, or its label reaches over a.
+fn has_entry(s: &PointArray, a: usize, q: usize) -> bool
+    requires { ⌜ (q ≤ a) × (a < 34) ⌝ }
+    ensures { λ r. ⌜ r ≡ fitting (heightsOf (now (s .entry))) a q ⌝ }
+{
+    if q == 0 {
+        return true;
+    }
+    reaches_over(s, a, q)
+}
+
+// Fills the entry (a, b, q), if the table has it.
+fn fill_entry(s: &PointArray, table: &mut [u16], a: usize, b: usize, q: usize)
+    requires { ⌜ Packed (now s) × Room (now table) × (q ≤ a) × (a < b) × (b ≤ heightsOf (now s) .n + 1) × Filling (heightsOf (now s)) (now table) a b q ⌝ }
+    ensures { λ _. ⌜ (length (now (table .exit)) ≡ length (now (table .entry))) × Filling (heightsOf (now (s .entry))) (now (table .exit)) a b (q + 1) ⌝ }
+{
+    if !has_entry(s, a, q) {
+        return;
+    }
+    let state = State {
+        lower: a,
+        upper: b,
+        reaching: q,
+    };
+    let value = entry(s, &table[..], state);
+    write_value(table, place(s, state), value);
+}
+
+// Fills the entries from a to b.
+fn fill_slab(s: &PointArray, table: &mut [u16], a: usize, b: usize)
+    requires { ⌜ Packed (now s) × Room (now table) × (a < b) × (b ≤ heightsOf (now s) .n + 1) × Rows (heightsOf (now s)) (now table) b × Slabs (heightsOf (now s)) (now table) (a + 1) b ⌝ }
+    ensures { λ _. ⌜ (length (now (table .exit)) ≡ length (now (table .entry))) × Rows (heightsOf (now (s .entry))) (now (table .exit)) b × Slabs (heightsOf (now (s .entry))) (now (table .exit)) a b ⌝ }
+{
+    let mut q = 0;
+    while q <= a {
+        fill_entry(s, table, a, b, q);
+        q += 1;
+    }
+}
+
+// Fills the entries with the upper end b.
+fn fill_row(s: &PointArray, table: &mut [u16], b: usize)
+    requires { ⌜ Packed (now s) × Room (now table) × (b ≤ heightsOf (now s) .n + 1) × Rows (heightsOf (now s)) (now table) b ⌝ }
+    ensures { λ _. ⌜ (length (now (table .exit)) ≡ length (now (table .entry))) × Rows (heightsOf (now (s .entry))) (now (table .exit)) (b + 1) ⌝ }
+{
+    let mut a = b;
+    while a > 0 {
+        a -= 1;
+        fill_slab(s, table, a, b);
+    }
+}
+
+// Fills the table.
+pub(crate) fn fill(s: &PointArray, table: &mut [u16])
+    requires { ⌜ Packed (now s) × Room (now table) ⌝ }
+    ensures { λ _. ⌜ (length (now (table .exit)) ≡ length (now (table .entry))) × Rows (heightsOf (now (s .entry))) (now (table .exit)) (heightsOf (now (s .entry)) .n + 2) ⌝ }
+{
+    let end = point_count(s) + 2;
+    let mut b = 1;
+    while b < end {
+        fill_row(s, table, b);
+        b += 1;
+    }
+}
