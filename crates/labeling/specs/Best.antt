@@ -50,7 +50,7 @@ unfoldable pub bestFrom : Points → (ℕ → ℕ) → ℕ → Choice → ℕ
 bestFrom P v zero S = cond (validB P S) (suc (weight P v S)) 0
 bestFrom P v (suc m) S = max (bestFrom P v m (put S m true)) (bestFrom P v m (put S m false))
 
--- The best over all choices.
+-- The best over all choices: 0 if no choice is valid, else the greatest weight plus 1.
 unfoldable pub best : Points → (ℕ → ℕ) → ℕ
 best P v = bestFrom P v (P .n) (λ i. false)
 

@@ -3,11 +3,13 @@ use mathlib.Core.Path.{_≡_, refl, sym, _∙_}
 use mathlib.Core.Bool.{Bool, true, false, cond}
 use mathlib.Core.Logic.{_⊎_, inl, inr, _↔_}
 use Prim.Native.Nat.{ℕ, _+_, _≤_, _<_}
+use lib.Dec.{ltb}
+use borrow.Author.Tests.{ltb-true, ltb-false}
 use native.Mathlib.Omega.{arith}
-use Rattle.labeling.specs.Points.{Points, Choice}
+use Rattle.labeling.specs.Points.{Points, Choice, Distinct}
 use Rattle.labeling.specs.Marks.{Shared}
 use Rattle.labeling.specs.Conflicts.{Overlap, Hits, Conflict}
-use Rattle.labeling.specs.Tests.{decide}
+use Rattle.labeling.specs.Tests.{decide, same}
 use Rattle.labeling.specs.Pixels.{shared-iff-conflict}
 
 -- i stands before j in height order: by row, then by column, ascending.
@@ -23,6 +25,20 @@ TableConflict P S i j =
     ((P .row j < P .row i + P .h) × (P .column i < P .column j + P .w) × (P .column j < P .column i + P .w))
     ((P .row j < P .row i + P .h) × (P .column i ≤ P .column j)))
     (cond (S j) ⊥ (P .row i ≡ P .row j))
+
+-- of two different points on different pixels one is under the other
+pub under-total : (P : Points) (i j : ℕ) → Distinct P → i < P .n → j < P .n → (i ≡ j → ⊥) → Under P i j ⊎ Under P j i
+under-total P i j d l m ne =
+    decide (ltb (P .row i) (P .row j))
+    (λ a. inl (inl (ltb-true _ _ a)))
+    (λ a. let x : P .row j ≤ P .row i = ltb-false _ _ a in
+    same (P .row i) (P .row j)
+    (λ q. decide (ltb (P .column i) (P .column j))
+    (λ b. inl (inr (q, ltb-true _ _ b)))
+    (λ b. let y : P .column j ≤ P .column i = ltb-false _ _ b in
+    let apart : P .column i ≡ P .column j → ⊥ = λ c. ne (d .apart i j l m q c) in
+    inr (inr (sym q, omega arith))))
+    (λ other. inr (inl (omega arith))))
 
 pub under-le : (P : Points) (i j : ℕ) → Under P i j → P .row i ≤ P .row j
 under-le P i j (inl a) = omega arith

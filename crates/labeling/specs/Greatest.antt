@@ -125,3 +125,17 @@ some-best P v pos d = let u = best-most P v (λ i. false) pos (nothing-inside P 
 pub best-counts : (P : Points) (S : Choice) → 1 ≤ P .w → Best P oneEach S → count P S ≡ bestCount P
 unfolding count bestCount
 best-counts P S pos b = rw (best-of P oneEach S pos b) (omega arith)
+
+-- no valid choice has a greater count than the best count
+pub best-count-most : (P : Points) (R : Choice) → 1 ≤ P .w → Valid P R → count P R ≤ bestCount P
+unfolding count bestCount
+best-count-most P R pos ok = below (best P oneEach) (best-most P oneEach R pos ok)
+  where
+    below : (t : ℕ) → weight P oneEach R < t → weight P oneEach R ≤ pred t
+    below t l = omega arith
+
+-- THE BEST COUNT IS THE GREATEST: with distinct rows a valid choice has it
+pub best-count-reached : (P : Points) → 1 ≤ P .w → DistinctRows P → (S : Choice) × Valid P S × (count P S ≡ bestCount P)
+best-count-reached P pos d =
+    let b = bestChoice-best P oneEach pos (some-best P oneEach pos d) in
+    (bestChoice P oneEach, b .valid, best-counts P (bestChoice P oneEach) pos b)

@@ -79,6 +79,29 @@ eight-seen : Seen eight fourth eight-looks
 unfolding eight fourth eight-looks marksB before insert outsideBelow outside nextMargin placedFrom placed marginIn marginColumn
 eight-seen = seen eight fourth eight-looks refl
 
+-- P9's rows with the same columns: outside in margin columns 0, 1 and 0.
+nine : Points
+nine = record {
+  n = 3;
+  mapWidth = 20;
+  mapHeight = 12;
+  w = 4;
+  h = 3;
+  column = λ i. getD (5 ∷ 0 ∷ 2 ∷ []) i 0;
+  row = λ i. getD (10 ∷ 9 ∷ 6 ∷ []) i 0;
+}
+
+nine-looks : List Look
+nine-looks =
+    -- the second, in margin column 1: a leader up to column -4, an outer label that starts at column -5
+    marked 1 (inMargin 3 9) ∷ unmarked 1 (inMargin 3 10) ∷ marked 1 (inMargin 4 9) ∷ marked 1 (inMargin 4 10) ∷
+    -- the third, 3 rows below the second, in margin column 0 again
+    marked 2 (inMargin 0 7) ∷ unmarked 2 (inMargin 4 6) ∷ []
+
+nine-seen : Seen nine (λ i. false) nine-looks
+unfolding nine nine-looks marksB before insert outsideBelow outside nextMargin placedFrom placed marginIn marginColumn
+nine-seen = seen nine (λ i. false) nine-looks refl
+
 -- Two outside points of one row, (5,3) and (2,3): the smaller column stands first.
 one-row : Points
 one-row = record {
