@@ -5,5 +5,7 @@ pub mod Answers
 pub mod Accepted
 pub mod Start
 pub mod PlateLength
+pub mod PlateBytes
 pub mod Cases
 pub mod CasePixels
+pub mod Refusals

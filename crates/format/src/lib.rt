@@ -27,7 +27,7 @@ pub fn byte_at(bytes: &[u8], at: usize) -> u8
     if at < bytes.len() {
         return bytes[at];
     }
-    0
+    0 // past the end
 }
 
 // The two-byte number at a place of at most 65,535, low byte first.
