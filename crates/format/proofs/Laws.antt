@@ -1,16 +1,16 @@
 -- Facts about the tests of a sheet, for the proofs of this crate. Assumes nothing.
-use mathlib.Core.Path.{_≡_, refl, sym, _∙_}
+use mathlib.Core.Path.{_≡_, refl, _∙_}
 use mathlib.Core.Bool.{Bool, true, false, not, _&&_}
 use mathlib.Core.List.{List}
-use Prim.Native.Nat.{ℕ, zero, suc, _+_, _≤_, _<_}
-use lib.Dec.{leb, eqb}
-use borrow.Author.Tests.{eq-eqb, ne-eqb, eqb-true, eqb-false, not-true, not-false}
+use Prim.Native.Nat.{ℕ, zero, suc, _+_, _<_}
+use lib.Dec.{eqb}
+use borrow.Author.Tests.{eq-eqb, ne-eqb}
 use native.Mathlib.Omega.{arith}
 use native.Mathlib.Numerals.{add-one}
 use Rattle.labeling.specs.Conflicts.{every}
 use Rattle.labeling.specs.Tests.{clash, decide, same, every-is}
-use Rattle.format.specs.Answers.{Outcome, outcomeOf}
-use Rattle.format.specs.Sheet.{ask, unlikeEarlier, pointNo, pointsNo}
+use Rattle.format.specs.Answers.{outcomeOf}
+use Rattle.format.specs.Sheet.{unlikeEarlier, pointNo, pointsNo}
 
 -- two tests one after the other: the first fails, or the second decides
 pub and-no : (a b : Bool) → a ≡ false → false ≡ (a && b)

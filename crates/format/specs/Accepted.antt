@@ -1,18 +1,16 @@
 -- What an accepted sheet has: the questions 11 to 20 are all answered yes exactly if the sheet keeps document 01's rules. The crates
 -- above rely on these facts. Assumes nothing.
 use mathlib.Core.Path.{_≡_, refl, sym}
-use mathlib.Core.Bool.{Bool, true, false, cond, not, _&&_}
+use mathlib.Core.Bool.{Bool, true, not}
 use mathlib.Core.List.{List}
-use mathlib.Core.Logic.{_↔_}
 use Prim.Native.Nat.{ℕ, zero, suc, _+_, _*_, _≤_, _<_}
-use lib.Dec.{ltb, leb, eqb}
+use lib.Dec.{ltb, eqb}
 use lib.ListN.{length}
 use borrow.Author.Tests.{eqb-true, eqb-false, eq-eqb}
 use native.Mathlib.Omega.{arith}
-use Rattle.labeling.specs.Points.{Points, DistinctRows}
-use Rattle.labeling.specs.Conflicts.{every}
-use Rattle.labeling.specs.Tests.{clash, decide, same, Decides, dec-lt, dec-le, dec-eq, dec-and, dec-not, every-of, every-is}
-use Rattle.format.specs.Sheet.{twoBytes, frameCount, mapWidth, mapHeight, labelWidth, labelHeight, pointCount, callNumber, column, row, pointsOf, ask, upTo, unlikeEarlier, pointNo, pointsNo, questionsNo, sheetNo, plateSheetNo}
+use Rattle.labeling.specs.Points.{DistinctRows}
+use Rattle.labeling.specs.Tests.{decide, same, Decides, dec-lt, dec-le, dec-eq, dec-and, dec-not, every-of, every-is}
+use Rattle.format.specs.Sheet.{frameCount, mapWidth, mapHeight, labelWidth, labelHeight, pointCount, callNumber, column, row, pointsOf, ask, upTo, unlikeEarlier, pointNo, pointsNo, questionsNo, sheetNo, plateSheetNo}
 
 -- The rules of a sheet but for its length.
 pub record Proper (s : List ℕ) : Type 0 where

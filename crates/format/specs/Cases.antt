@@ -1,16 +1,15 @@
 -- Document 01's cases P1 to P10, from the sheet's bytes: one table, one theorem. What the theorem says is in the words of labeling
 -- (valid and best over pixels) and of Plate.antt; the tests only compute it. Assumes nothing.
-use mathlib.Core.Path.{_≡_, refl, sym}
+use mathlib.Core.Path.{_≡_, refl}
 use mathlib.Core.Bool.{Bool, true, false, not, _&&_}
 use mathlib.Core.List.{List, [], _∷_, _++_}
-use Prim.Native.Nat.{ℕ, _+_, _≤_}
+use Prim.Native.Nat.{ℕ, _≤_}
 use lib.Dec.{T, eqb, leb}
-use lib.ListN.{length, getD}
 use borrow.Author.Tests.{eqb-true, leb-true}
 use Rattle.labeling.specs.Points.{Points, Choice, before, insert, outsideBelow, outside, nextMargin, placedFrom, placed}
 use Rattle.labeling.specs.Marks.{Valid}
 use Rattle.labeling.specs.Conflicts.{conflictB, validB, every}
-use Rattle.labeling.specs.Tests.{clash, and-left, and-right, Decides, dec-not}
+use Rattle.labeling.specs.Tests.{clash, and-left, and-right, dec-not}
 use Rattle.labeling.specs.Pixels.{dec-valid}
 use Rattle.labeling.specs.Margin.{among}
 use Rattle.labeling.specs.Best.{weightBelow, weight, oneEach, OnlyBest, put}

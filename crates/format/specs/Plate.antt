@@ -1,9 +1,9 @@
 -- The plate of a sheet and a choice, as bytes (document 01, "Sheet and plate as bytes"). Assumes nothing.
-use mathlib.Core.Bool.{Bool, cond}
+use mathlib.Core.Bool.{cond}
 use mathlib.Core.List.{List, [], _∷_, _++_}
 use Prim.Native.Nat.{ℕ, zero, suc}
 use lib.ListN.{length}
-use Rattle.labeling.specs.Points.{Points, Choice, Placed, outside, placed}
+use Rattle.labeling.specs.Points.{Choice, Placed, outside, placed}
 use Rattle.format.specs.Sheet.{pointCount, pointsOf}
 
 -- "Sections stand in a fixed order, each after its one-byte count": a count and the bytes after it.

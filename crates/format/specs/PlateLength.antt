@@ -1,7 +1,6 @@
 -- "With i inside and o outside it has 12 + 6n + i + 2o bytes": the length of a plate. Assumes nothing.
 use mathlib.Core.Path.{_≡_, refl, ap, _∙_}
-use mathlib.Core.Bool.{true, false, cond}
-use mathlib.Core.List.{List, [], _∷_, _++_}
+use mathlib.Core.List.{List, [], _∷_}
 use Prim.Native.Nat.{ℕ, zero, suc, _+_, _*_}
 use lib.ListN.{length, length-append}
 use native.Mathlib.Omega.{arith}

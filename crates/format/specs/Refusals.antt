@@ -1,11 +1,10 @@
 -- Sheets with the number of their first no: one table, one theorem. It shows each question 11 to 20 refuse something, each limit from
 -- both sides, and the order of the questions where a sheet has several that are answered no. Assumes nothing.
 use mathlib.Core.Path.{_≡_, refl}
-use mathlib.Core.Bool.{Bool, true, false, _&&_}
+use mathlib.Core.Bool.{Bool, true, _&&_}
 use mathlib.Core.List.{List, [], _∷_, _++_}
 use Prim.Native.Nat.{ℕ, zero, suc}
-use lib.Dec.{T, eqb}
-use lib.ListN.{length, getD}
+use lib.Dec.{eqb}
 use borrow.Author.Tests.{eqb-true}
 use Rattle.labeling.specs.Conflicts.{every}
 use Rattle.labeling.specs.Tests.{and-left, and-right}

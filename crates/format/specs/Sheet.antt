@@ -98,10 +98,8 @@ questionsNo s fits =
 
 -- The first no of a sheet, 0 if there is none.
 unfoldable pub sheetNo : List ℕ → ℕ
-unfolding questionsNo
 sheetNo s = questionsNo s (eqb (length s) (10 + 6 * pointCount s))
 
 -- The first no of the sheet at the start of a plate, 0 if there is none.
 unfoldable pub plateSheetNo : List ℕ → ℕ
-unfolding questionsNo
 plateSheetNo p = questionsNo p (leb (10 + 6 * pointCount p) (length p))

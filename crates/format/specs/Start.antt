@@ -1,16 +1,15 @@
--- The first 203 bytes decide a sheet's questions: no longer sheet is accepted, and its first no is among 11 to 16. So a program may
+-- The first 203 bytes decide a sheet's questions: no longer sheet is accepted, and its first no is among 12 to 16. So a program may
 -- judge a sheet of any length by a buffer that holds this many. Assumes nothing.
-use mathlib.Core.Path.{_≡_, refl, sym, ap, ap₂, _∙_}
-use mathlib.Core.Bool.{Bool, true, false, cond, _&&_}
+use mathlib.Core.Path.{_≡_, refl, ap, ap₂, _∙_}
 use mathlib.Core.List.{List}
-use Prim.Native.Nat.{ℕ, _+_, _*_, _≤_, _<_, min}
-use lib.Dec.{leb, eqb}
+use Prim.Native.Nat.{ℕ, _+_, _*_, _≤_, _<_}
+use lib.Dec.{leb}
 use lib.ListN.{length, getD, take, length-take}
 use lib.Seq.{getD-take, take-all}
 use borrow.Author.Tests.{le-leb, ne-eqb, leb-true, leb-false}
 use native.Mathlib.Omega.{arith}
 use Rattle.labeling.specs.Tests.{decide}
-use Rattle.format.specs.Sheet.{twoBytes, pointCount, upTo, questionsNo, sheetNo}
+use Rattle.format.specs.Sheet.{twoBytes, questionsNo, sheetNo}
 
 module _ (k : ℕ) (s : List ℕ) (enough : 203 ≤ k) where
   byte-same : (i : ℕ) → i < 203 → getD (take k s) i 0 ≡ getD s i 0

@@ -1,13 +1,11 @@
 -- Only positions below n matter: marks, validity and weight are the same for choices that agree there.
 -- Assumes nothing.
-use mathlib.Core.Path.{_≡_, refl, sym, _∙_, ap}
-use mathlib.Core.Bool.{Bool, true, false, cond}
-use mathlib.Core.List.{List, [], _∷_}
-use Prim.Native.Nat.{ℕ, zero, suc, _+_, _≤_, _<_}
+use mathlib.Core.Path.{_≡_, refl, sym}
+use Prim.Native.Nat.{ℕ, zero, suc, _<_}
 use native.Mathlib.Omega.{arith}
-use Rattle.labeling.specs.Points.{Points, Choice, Pixel, insert, outsideBelow, outside, marginColumn}
+use Rattle.labeling.specs.Points.{Points, Choice, Pixel, outsideBelow, outside, marginColumn}
 use Rattle.labeling.specs.Marks.{Marks, Valid}
-use Rattle.labeling.specs.Best.{Agree, weightBelow, weight, count, put}
+use Rattle.labeling.specs.Best.{Agree, weightBelow, weight}
 
 pub agree-refl : (P : Points) (S : Choice) → Agree P S S
 agree-refl P S = record { at = λ i l. refl }

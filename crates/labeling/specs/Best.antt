@@ -23,7 +23,6 @@ oneEach i = 1
 
 -- "The inside count" of a choice: its weight where each position weighs 1.
 unfoldable pub count : Points → Choice → ℕ
-unfolding weight
 count P S = weight P oneEach S
 
 -- A best choice: valid, and no valid choice weighs more.

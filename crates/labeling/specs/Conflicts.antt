@@ -1,7 +1,7 @@
 -- When two points conflict, by arithmetic. Pixels.antt shows that two points conflict exactly if they mark one pixel. Beside each
 -- fact stands the test that computes it; Tests.antt shows that they agree. Assumes nothing.
 use mathlib.Core.Path.{_≡_}
-use mathlib.Core.Bool.{Bool, true, false, cond, not, _&&_, _||_}
+use mathlib.Core.Bool.{Bool, true, cond, not, _&&_, _||_}
 use Prim.Native.Nat.{ℕ, zero, suc, _+_, _≤_, _<_}
 use lib.Dec.{ltb, leb, eqb}
 use Rattle.labeling.specs.Points.{Points, Choice}

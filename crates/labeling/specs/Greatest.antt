@@ -1,19 +1,18 @@
 -- The best is reached by a valid choice, and no valid choice exceeds it; any number with these two properties is the best.
 -- Assumes nothing.
-use mathlib.Core.Path.{_≡_, refl, sym, _∙_, ap}
-use mathlib.Core.Bool.{Bool, true, false, cond}
-use mathlib.Core.Logic.{_⊎_, inl, inr}
-use Prim.Native.Nat.{ℕ, zero, suc, _+_, _≤_, _<_, max, pred}
-use lib.Dec.{ltb, leb, eqb}
-use borrow.Author.Tests.{ltb-true, ltb-false, leb-true, leb-false, eq-eqb, ne-eqb}
+use mathlib.Core.Path.{_≡_, refl, sym, _∙_}
+use mathlib.Core.Bool.{Bool, true, false}
+use Prim.Native.Nat.{ℕ, zero, suc, _≤_, _<_, pred}
+use lib.Dec.{leb}
+use borrow.Author.Tests.{leb-true, leb-false, eq-eqb, ne-eqb}
 use native.Mathlib.Omega.{arith}
 use Rattle.labeling.specs.Points.{Points, Choice, DistinctRows}
 use Rattle.labeling.specs.Marks.{Valid}
 use Rattle.labeling.specs.Conflicts.{validB}
-use Rattle.labeling.specs.Tests.{clash, decide, same, Decides}
+use Rattle.labeling.specs.Tests.{decide, same}
 use Rattle.labeling.specs.Pixels.{dec-valid, nothing-inside}
-use Rattle.labeling.specs.Best.{weight, count, oneEach, Best, Agree, OnlyBest, put, bestFrom, best, bestCount, bestChoiceFrom, bestChoice}
-use Rattle.labeling.specs.Agree.{agree-sym, valid-agree, weight-agree}
+use Rattle.labeling.specs.Best.{weight, count, oneEach, Best, Agree, put, bestFrom, best, bestCount, bestChoiceFrom, bestChoice}
+use Rattle.labeling.specs.Agree.{valid-agree, weight-agree}
 
 pub put-at : (S : Choice) (k : ℕ) (b : Bool) → put S k b k ≡ b
 unfolding put

@@ -1,7 +1,7 @@
 -- The pixels that a point marks, and when a choice is valid (document 01, "Marks and pixels"). Beside each kind of mark stands the
 -- test that computes it; Tests.antt shows that they agree. Assumes nothing.
 use mathlib.Core.Path.{_≡_}
-use mathlib.Core.Bool.{Bool, true, false, cond, _&&_, _||_}
+use mathlib.Core.Bool.{Bool, false, cond, _&&_, _||_}
 use mathlib.Core.Logic.{_⊎_}
 use Prim.Native.Nat.{ℕ, _+_, _*_, _≤_, _<_}
 use lib.Dec.{ltb, leb, eqb}

@@ -3,17 +3,17 @@
 use mathlib.Core.Path.{_≡_, refl, sym, _∙_}
 use mathlib.Core.Bool.{Bool, true, false, not, _&&_, _||_, Bool·beq}
 use mathlib.Core.Logic.{_⊎_, inl, inr}
-use Prim.Native.Nat.{ℕ, zero, suc, _+_, _≤_, _<_}
-use lib.Dec.{ltb, eqb}
-use borrow.Author.Tests.{ltb-true, eqb-true}
+use Prim.Native.Nat.{ℕ, zero, suc, _≤_, _<_}
+use lib.Dec.{ltb}
+use borrow.Author.Tests.{ltb-true}
 use native.Mathlib.Omega.{arith}
 use Rattle.labeling.specs.Points.{Points, Choice}
 use Rattle.labeling.specs.Marks.{Valid}
 use Rattle.labeling.specs.Conflicts.{validB, every}
-use Rattle.labeling.specs.Tests.{clash, decide, and-left, and-right, or-is, every-is, Decides}
+use Rattle.labeling.specs.Tests.{clash, decide, and-left, and-right, or-is, every-is}
 use Rattle.labeling.specs.Pixels.{dec-valid}
-use Rattle.labeling.specs.Best.{weight, Best, Agree, OnlyBest, put}
-use Rattle.labeling.specs.Agree.{agree-sym, valid-agree, weight-agree}
+use Rattle.labeling.specs.Best.{weight, Agree, OnlyBest, put}
+use Rattle.labeling.specs.Agree.{valid-agree, weight-agree}
 use Rattle.labeling.specs.Greatest.{From, from-put}
 
 -- Every way to put the positions below m, the others being as in S, passes.

@@ -1,15 +1,15 @@
 -- Two points share a pixel exactly if they conflict; validity by pixels is validity by pairs.
 -- Assumes nothing.
-use mathlib.Core.Path.{_≡_, refl, sym, _∙_}
-use mathlib.Core.Bool.{Bool, true, false, cond}
+use mathlib.Core.Path.{_≡_}
+use mathlib.Core.Bool.{true, false}
 use mathlib.Core.Logic.{_⊎_, inl, inr, _↔_}
-use Prim.Native.Nat.{ℕ, zero, suc, _+_, _*_, _≤_, _<_, max}
+use Prim.Native.Nat.{ℕ, _+_, _*_, _≤_, _<_, max}
 use native.Mathlib.Nat.{mul-le-mul-right}
 use native.Mathlib.Omega.{arith}
 use Rattle.labeling.specs.Points.{Points, Choice, DistinctRows, Pixel, atColumn, inMargin, marginColumn}
 use Rattle.labeling.specs.Marks.{Label, Leader, Outer, Marks, Shared, Valid}
 use Rattle.labeling.specs.Conflicts.{Overlap, Hits, Conflict, Free, validB}
-use Rattle.labeling.specs.Tests.{clash, decide, same, Decides, dec-free}
+use Rattle.labeling.specs.Tests.{decide, same, Decides, dec-free}
 use Rattle.labeling.specs.Margin.{lower-further}
 
 -- What an outside point in margin column k marks.

@@ -1,25 +1,19 @@
+-- `format::both_up_to` meets its contract. Assumes nothing.
 use borrow.Author.Needs.{needs}
 use mathlib.Core.Path.{sym, _∙_}
 use Rattle.format.proofs.Laws.{and-no, and-yes}
 use Rattle.format.proofs.both_up_to.Statement.{statement}
 use Rattle.format.proofs.both_up_to.Tie as tie
-use Rattle.format.proofs.both_up_to.Reads as reads
-use Rattle.format.proofs.both_up_to.Lts as lts
-use Rattle.format.proofs.up_to.Reads as up-to-reads
 
--- src/lib.rt:103:8
 up-to-requires : tie.Need-up-to-requires
 up-to-requires c κs = search needs
 
--- src/lib.rt:104:9
 up-to-requires-2 : tie.Need-up-to-requires-2
 up-to-requires-2 c κs = search needs
 
--- src/lib.rt:104:9
 returns : tie.Need-returns
 returns c = and-yes _ _ _ (sym (c .before .before .up-to .ensures) ∙ c .before .if1 .taken) (c .up-to2 .ensures)
 
--- src/lib.rt:100:1
 returns-2 : tie.Need-returns-2
 returns-2 c = and-no _ _ (sym (c .before .up-to .ensures) ∙ c .if1 .left)
 

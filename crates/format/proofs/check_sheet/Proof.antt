@@ -1,3 +1,4 @@
+-- `format::check_sheet` meets its contract. Assumes nothing.
 use borrow.Author.Needs.{needs}
 use lib.Dec.{eqb}
 use lib.ListN.{length}
@@ -6,16 +7,10 @@ use Rattle.format.specs.Sheet.{questionsNo, sheetNo}
 use Rattle.format.proofs.Laws.{none-outcome, no-outcome}
 use Rattle.format.proofs.check_sheet.Statement.{statement}
 use Rattle.format.proofs.check_sheet.Tie as tie
-use Rattle.format.proofs.check_sheet.Reads as reads
-use Rattle.format.proofs.check_sheet.Lts as lts
-use Rattle.format.proofs.questions_no.Reads as questions-no-reads
-use Rattle.format.proofs.sheet_length.Reads as sheet-length-reads
 
--- src/lib.rt:206:49
 sheet-length-requires : tie.Need-sheet-length-requires
 sheet-length-requires c κs = search needs
 
--- src/lib.rt:206:9
 questions-no-requires : tie.Need-questions-no-requires
 questions-no-requires c κs = search needs
 
@@ -29,7 +24,6 @@ first-no c =
 returns : tie.Need-returns
 returns c = none-outcome _ (sym (first-no (c .before)) ∙ c .if1 .taken)
 
--- src/lib.rt:203:1
 returns-2 : tie.Need-returns-2
 returns-2 c = no-outcome _ _ (first-no (c .before)) (c .if1 .left)
 

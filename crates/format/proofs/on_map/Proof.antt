@@ -1,3 +1,4 @@
+-- `format::on_map` meets its contract. Assumes nothing.
 use borrow.Author.Needs.{needs}
 use borrow.Author.Tests.{lt-ltb, le-ltb}
 use lib.Dec.{ltb}
@@ -5,34 +6,22 @@ use mathlib.Core.Path.{sym, _∙_, ap₂}
 use Rattle.format.proofs.Laws.{and-no, and-yes}
 use Rattle.format.proofs.on_map.Statement.{statement}
 use Rattle.format.proofs.on_map.Tie as tie
-use Rattle.format.proofs.on_map.Reads as reads
-use Rattle.format.proofs.on_map.Lts as lts
-use Rattle.format.proofs.column.Reads as column-reads
-use Rattle.format.proofs.map_height.Reads as map-height-reads
-use Rattle.format.proofs.map_width.Reads as map-width-reads
-use Rattle.format.proofs.row.Reads as row-reads
 
--- src/lib.rt:113:8
 column-requires : tie.Need-column-requires
 column-requires c κs = search needs
 
--- src/lib.rt:113:34
 map-width-requires : tie.Need-map-width-requires
 map-width-requires c κs = search needs
 
--- src/lib.rt:114:16
 row-requires : tie.Need-row-requires
 row-requires c κs = search needs
 
--- src/lib.rt:114:39
 map-height-requires : tie.Need-map-height-requires
 map-height-requires c κs = search needs
 
--- src/lib.rt:114:9
 returns : tie.Need-returns
 returns c = and-yes _ _ _ (ap₂ ltb (sym (c .before .before .before .before .column .ensures)) (sym (c .before .before .before .map-width .ensures)) ∙ lt-ltb _ _ (c .before .before .if1 .taken)) (ap₂ ltb (c .before .row .ensures) (c .map-height .ensures))
 
--- src/lib.rt:110:1
 returns-2 : tie.Need-returns-2
 returns-2 c = and-no _ _ (ap₂ ltb (sym (c .before .before .column .ensures)) (sym (c .before .map-width .ensures)) ∙ le-ltb _ _ (c .if1 .left))
 

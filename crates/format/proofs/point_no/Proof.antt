@@ -1,45 +1,33 @@
+-- `format::point_no` meets its contract. Assumes nothing.
 use borrow.Author.Needs.{needs}
 use mathlib.Core.Path.{refl, ap, _∙_}
 use Rattle.format.specs.Sheet.{upTo, pointNo}
 use Rattle.format.specs.Asking.{ask-no, ask-yes, off, on}
 use Rattle.format.proofs.point_no.Statement.{statement}
 use Rattle.format.proofs.point_no.Tie as tie
-use Rattle.format.proofs.point_no.Reads as reads
-use Rattle.format.proofs.point_no.Lts as lts
-use Rattle.format.proofs.call_number.Reads as call-number-reads
-use Rattle.format.proofs.on_map.Reads as on-map-reads
-use Rattle.format.proofs.unlike_earlier.Reads as unlike-earlier-reads
-use Rattle.format.proofs.up_to.Reads as up-to-reads
 
--- src/lib.rt:139:21
 call-number-requires : tie.Need-call-number-requires
 call-number-requires c κs = search needs
 
--- src/lib.rt:139:9
 up-to-requires : tie.Need-up-to-requires
 up-to-requires c κs = search needs
 
--- src/lib.rt:140:9
 returns : tie.Need-returns
 unfolding pointNo
 returns c = ask-no _ 17 _ (off _ _ (c .before .up-to .ensures ∙ ap (upTo 9999) (c .before .before .call-number .ensures)) (c .if1 .taken))
 
--- src/lib.rt:142:9
 on-map-requires : tie.Need-on-map-requires
 on-map-requires c κs = search needs
 
--- src/lib.rt:143:9
 returns-2 : tie.Need-returns-2
 unfolding pointNo
 returns-2 c =
     ask-yes _ 17 _ _ (on _ _ (c .before .before .before .up-to .ensures ∙ ap (upTo 9999) (c .before .before .before .before .call-number .ensures)) (c .before .before .if1 .left))
     (ask-no _ 18 _ (off _ _ (c .before .on-map .ensures) (c .if2 .taken)))
 
--- src/lib.rt:145:9
 unlike-earlier-requires : tie.Need-unlike-earlier-requires
 unlike-earlier-requires c κs = search needs
 
--- src/lib.rt:146:9
 returns-3 : tie.Need-returns-3
 unfolding pointNo
 returns-3 c =
@@ -47,11 +35,9 @@ returns-3 c =
     (ask-yes _ 18 _ _ (on _ _ (c .before .before .before .on-map .ensures) (c .before .before .if2 .left))
     (ask-no _ 19 _ (off _ _ (c .before .unlike-earlier .ensures) (c .if3 .taken))))
 
--- src/lib.rt:148:9
 unlike-earlier-requires-2 : tie.Need-unlike-earlier-requires-2
 unlike-earlier-requires-2 c κs = search needs
 
--- src/lib.rt:149:9
 returns-4 : tie.Need-returns-4
 unfolding pointNo
 returns-4 c =
@@ -60,7 +46,6 @@ returns-4 c =
     (ask-yes _ 19 _ _ (on _ _ (c .before .before .before .unlike-earlier .ensures) (c .before .before .if3 .left))
     (ask-no _ 20 _ (off _ _ (c .before .unlike-earlier2 .ensures) (c .if4 .taken)))))
 
--- src/lib.rt:136:1
 returns-5 : tie.Need-returns-5
 unfolding pointNo
 returns-5 c =

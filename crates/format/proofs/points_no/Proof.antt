@@ -1,15 +1,12 @@
+-- `format::points_no` meets its contract. Assumes nothing.
 use borrow.Author.Needs.{needs}
 use mathlib.Core.Path.{_≡_, refl, sym, ap, _∙_}
 use Prim.Native.Nat.{_-_, _≤_}
 use native.Mathlib.Omega.{arith}
-use Rattle.format.specs.Sheet.{pointCount, pointNo, pointsNo}
+use Rattle.format.specs.Sheet.{pointCount, pointsNo}
 use Rattle.format.proofs.Laws.{points-more, points-first}
 use Rattle.format.proofs.points_no.Statement.{statement}
 use Rattle.format.proofs.points_no.Tie as tie
-use Rattle.format.proofs.points_no.Reads as reads
-use Rattle.format.proofs.points_no.Lts as lts
-use Rattle.format.proofs.point_count.Reads as point-count-reads
-use Rattle.format.proofs.point_no.Reads as point-no-reads
 
 abbrev Inv-loop : tie.InvT-loop
 Inv-loop sheet n position₀ position = (position ≤ n) × (n ≡ pointCount sheet) × (pointsNo sheet position ≡ 0)
@@ -17,20 +14,16 @@ Inv-loop sheet n position₀ position = (position ≤ n) × (n ≡ pointCount sh
 abbrev μ-loop : tie.MeasureT-loop
 μ-loop sheet n position₀ position = n - position
 
--- src/lib.rt:158:9
 point-count-requires : tie.Need-point-count-requires Inv-loop μ-loop
 point-count-requires c κs = search needs
 
--- src/lib.rt:160:5
 loop-holds : tie.Need-loop-holds Inv-loop μ-loop
 unfolding pointsNo
 loop-holds c = (search needs, c .point-count .ensures, refl)
 
--- src/lib.rt:161:13
 point-no-requires : tie.Need-point-no-requires Inv-loop μ-loop
 point-no-requires c κs = search needs
 
--- src/lib.rt:163:13
 returns : tie.Need-returns Inv-loop μ-loop
 returns c =
     let s = c .before .before .before .before .before .before .args .sheet .now in
@@ -38,22 +31,18 @@ returns c =
     let e = c .before .point-no .ensures in
     e ∙ points-first s i (pointCount s) (c .before .before .before .loop .inv .2) (λ z. c .if1 .taken (e ∙ z)) (omega arith)
 
--- src/lib.rt:165:9
 add-position : tie.Need-add-position Inv-loop μ-loop
 add-position c = search needs
 
--- src/lib.rt:160:5
 loop-less : tie.Need-loop-less Inv-loop μ-loop
 loop-less c = search needs
 
--- src/lib.rt:160:5
 loop-again : tie.Need-loop-again Inv-loop μ-loop
 loop-again c =
     let s = c .before .before .before .before .before .before .args .sheet .now in
     let i = c .before .before .before .loop .position in
     (search needs, search needs, points-more s i (c .before .before .before .loop .inv .2) (sym (c .before .point-no .ensures) ∙ c .if1 .left))
 
--- src/lib.rt:155:1
 returns-2 : tie.Need-returns-2 Inv-loop μ-loop
 returns-2 c =
     let s = c .before .before .before .before .args .sheet .now in

@@ -1,3 +1,4 @@
+-- `format::questions_no` meets its contract. Assumes nothing.
 use borrow.Author.Needs.{needs}
 use borrow.Author.Tests.{le-leb, lt-leb, eq-eqb, ne-eqb, not-true, not-false}
 use lib.Dec.{leb}
@@ -7,46 +8,29 @@ use Rattle.format.specs.Sheet.{upTo, questionsNo}
 use Rattle.format.specs.Asking.{ask-no, ask-yes, off, on}
 use Rattle.format.proofs.questions_no.Statement.{statement}
 use Rattle.format.proofs.questions_no.Tie as tie
-use Rattle.format.proofs.questions_no.Reads as reads
-use Rattle.format.proofs.questions_no.Lts as lts
-use Rattle.format.proofs.both_up_to.Reads as both-up-to-reads
-use Rattle.format.proofs.byte_at.Reads as byte-at-reads
-use Rattle.format.proofs.label_height.Reads as label-height-reads
-use Rattle.format.proofs.label_width.Reads as label-width-reads
-use Rattle.format.proofs.map_height.Reads as map-height-reads
-use Rattle.format.proofs.map_width.Reads as map-width-reads
-use Rattle.format.proofs.point_count.Reads as point-count-reads
-use Rattle.format.proofs.points_no.Reads as points-no-reads
 
--- src/lib.rt:175:9
 returns : tie.Need-returns
 unfolding questionsNo
 returns c = ask-no _ 11 _ (lt-leb _ _ (c .if1 .taken))
 
--- src/lib.rt:177:8
 byte-at-requires : tie.Need-byte-at-requires
 byte-at-requires c κs = search needs
 
--- src/lib.rt:178:9
 returns-2 : tie.Need-returns-2
 unfolding questionsNo
 returns-2 c =
     ask-yes _ 11 _ _ (le-leb _ _ (c .before .before .if1 .left))
     (ask-no _ 12 _ (ne-eqb _ _ (λ z. c .if2 .taken (c .before .byte-at .ensures ∙ z))))
 
--- src/lib.rt:180:26
 map-width-requires : tie.Need-map-width-requires
 map-width-requires c κs = search needs
 
--- src/lib.rt:180:44
 map-height-requires : tie.Need-map-height-requires
 map-height-requires c κs = search needs
 
--- src/lib.rt:180:9
 both-up-to-requires : tie.Need-both-up-to-requires
 both-up-to-requires c κs = search needs
 
--- src/lib.rt:181:9
 returns-3 : tie.Need-returns-3
 unfolding questionsNo
 returns-3 c =
@@ -54,19 +38,15 @@ returns-3 c =
     (ask-yes _ 12 _ _ (eq-eqb _ _ (sym (c .before .before .before .before .before .byte-at .ensures) ∙ c .before .before .before .before .if2 .left))
     (ask-no _ 13 _ (off _ _ (c .before .both-up-to .ensures ∙ ap₂ (λ x y. upTo 4096 x && upTo 4096 y) (c .before .before .before .map-width .ensures) (c .before .before .map-height .ensures)) (c .if3 .taken))))
 
--- src/lib.rt:183:25
 label-width-requires : tie.Need-label-width-requires
 label-width-requires c κs = search needs
 
--- src/lib.rt:183:45
 label-height-requires : tie.Need-label-height-requires
 label-height-requires c κs = search needs
 
--- src/lib.rt:183:9
 both-up-to-requires-2 : tie.Need-both-up-to-requires-2
 both-up-to-requires-2 c κs = search needs
 
--- src/lib.rt:184:9
 returns-4 : tie.Need-returns-4
 unfolding questionsNo
 returns-4 c =
@@ -75,11 +55,9 @@ returns-4 c =
     (ask-yes _ 13 _ _ (on _ _ (c .before .before .before .before .before .both-up-to .ensures ∙ ap₂ (λ x y. upTo 4096 x && upTo 4096 y) (c .before .before .before .before .before .before .before .map-width .ensures) (c .before .before .before .before .before .before .map-height .ensures)) (c .before .before .before .before .if3 .left))
     (ask-no _ 14 _ (off _ _ (c .before .both-up-to2 .ensures ∙ ap₂ (λ x y. upTo 256 x && upTo 256 y) (c .before .before .before .label-width .ensures) (c .before .before .label-height .ensures)) (c .if4 .taken)))))
 
--- src/lib.rt:186:8
 point-count-requires : tie.Need-point-count-requires
 point-count-requires c κs = search needs
 
--- src/lib.rt:187:9
 returns-5 : tie.Need-returns-5
 unfolding questionsNo
 returns-5 c =
@@ -89,7 +67,6 @@ returns-5 c =
     (ask-yes _ 14 _ _ (on _ _ (c .before .before .before .both-up-to2 .ensures ∙ ap₂ (λ x y. upTo 256 x && upTo 256 y) (c .before .before .before .before .before .label-width .ensures) (c .before .before .before .before .label-height .ensures)) (c .before .before .if4 .left))
     (ask-no _ 15 _ (ap (λ x. leb x 32) (sym (c .before .point-count .ensures)) ∙ lt-leb _ _ (c .if5 .taken))))))
 
--- src/lib.rt:190:9
 returns-6 : tie.Need-returns-6
 unfolding questionsNo
 returns-6 c =
@@ -100,11 +77,9 @@ returns-6 c =
     (ask-yes _ 15 _ _ (ap (λ x. leb x 32) (sym (c .before .before .point-count .ensures)) ∙ le-leb _ _ (c .before .if5 .left))
     (ask-no (c .before .before .before .before .before .before .before .before .before .before .before .before .before .before .before .args .fits) 16 _ (not-true _ (c .if6 .taken)))))))
 
--- src/lib.rt:192:5
 points-no-requires : tie.Need-points-no-requires
 points-no-requires c κs = search needs
 
--- src/lib.rt:171:1
 returns-7 : tie.Need-returns-7
 unfolding questionsNo
 returns-7 c =

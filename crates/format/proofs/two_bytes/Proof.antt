@@ -1,6 +1,5 @@
 -- `format::two_bytes` meets its contract. Assumes nothing.
 use borrow.Author.Needs.{needs}
-use native.Mathlib.Omega.{arith}
 use Rattle.format.specs.Sheet.{twoBytes}
 use Rattle.format.proofs.two_bytes.Statement.{statement}
 use Rattle.format.proofs.two_bytes.Tie as tie

@@ -1,3 +1,4 @@
+-- `format::unlike_earlier` meets its contract. Assumes nothing.
 use borrow.Author.Needs.{needs}
 use mathlib.Core.Path.{_≡_, sym, _∙_}
 use Prim.Native.Nat.{ℕ, _+_, _*_, _-_, _≤_, _<_}
@@ -8,9 +9,6 @@ use Rattle.format.specs.Accepted.{dec-unlike}
 use Rattle.format.proofs.Laws.{not-unlike}
 use Rattle.format.proofs.unlike_earlier.Statement.{statement}
 use Rattle.format.proofs.unlike_earlier.Tie as tie
-use Rattle.format.proofs.unlike_earlier.Reads as reads
-use Rattle.format.proofs.unlike_earlier.Lts as lts
-use Rattle.format.proofs.two_bytes.Reads as two-bytes-reads
 
 abbrev Inv-loop : tie.InvT-loop
 Inv-loop sheet place position own earlier₀ earlier =
@@ -19,59 +17,46 @@ Inv-loop sheet place position own earlier₀ earlier =
 abbrev μ-loop : tie.MeasureT-loop
 μ-loop sheet place position own earlier₀ earlier = position - earlier
 
--- src/lib.rt:103:40
 mul-two-bytes : tie.Need-mul-two-bytes Inv-loop μ-loop
 mul-two-bytes c = search needs
 
--- src/lib.rt:103:32
 add-two-bytes : tie.Need-add-two-bytes Inv-loop μ-loop
 add-two-bytes c = search needs
 
--- src/lib.rt:103:9
 two-bytes-requires : tie.Need-two-bytes-requires Inv-loop μ-loop
 two-bytes-requires c κs = search needs
 
--- src/lib.rt:105:5
 loop-holds : tie.Need-loop-holds Inv-loop μ-loop
 loop-holds c = search needs
 
--- src/lib.rt:106:41
 cast-two-bytes : tie.Need-cast-two-bytes Inv-loop μ-loop
 cast-two-bytes c = search needs
 
--- src/lib.rt:106:37
 mul-two-bytes-2 : tie.Need-mul-two-bytes-2 Inv-loop μ-loop
 mul-two-bytes-2 c = search needs
 
--- src/lib.rt:106:29
 add-two-bytes-2 : tie.Need-add-two-bytes-2 Inv-loop μ-loop
 add-two-bytes-2 c = search needs
 
--- src/lib.rt:106:12
 two-bytes-requires-2 : tie.Need-two-bytes-requires-2 Inv-loop μ-loop
 two-bytes-requires-2 c κs = search needs
 
--- src/lib.rt:107:13
 returns : tie.Need-returns Inv-loop μ-loop
 returns c =
     let a = c .before .before .before .before .before .before .args in
     let same : twoBytes (a .sheet .now) (a .place + 6 * c .before .before .before .loop .earlier) ≡ twoBytes (a .sheet .now) (a .place + 6 * a .position) = cc in
     sym (not-unlike (λ (j : ℕ). twoBytes (a .sheet .now) (a .place + 6 * j)) (a .position) (c .before .before .before .loop .earlier) (omega arith) same)
 
--- src/lib.rt:109:9
 add-earlier : tie.Need-add-earlier Inv-loop μ-loop
 add-earlier c = search needs
 
--- src/lib.rt:105:5
 loop-less : tie.Need-loop-less Inv-loop μ-loop
 loop-less c = search needs
 
--- src/lib.rt:105:5
 loop-again : tie.Need-loop-again Inv-loop μ-loop
 loop-again c =
     (search needs, search needs, below-more _ _ (c .before .before .before .loop .inv .2) (λ e. c .if1 .left (c .before .two-bytes2 .ensures ∙ e)))
 
--- src/lib.rt:99:1
 returns-2 : tie.Need-returns-2 Inv-loop μ-loop
 returns-2 c =
     let a = c .before .before .before .before .args in
