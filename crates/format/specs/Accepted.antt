@@ -12,15 +12,19 @@ use Rattle.labeling.specs.Points.{DistinctRows}
 use Rattle.labeling.specs.Tests.{decide, same, Decides, dec-lt, dec-le, dec-eq, dec-and, dec-not, every-of, every-is}
 use Rattle.format.specs.Sheet.{frameCount, mapWidth, mapHeight, labelWidth, labelHeight, pointCount, callNumber, column, row, pointsOf, ask, upTo, unlikeEarlier, pointNo, pointsNo, questionsNo, sheetNo, plateSheetNo}
 
+-- A number is 1 to most.
+abbrev pub UpTo : ℕ → ℕ → Type 0
+UpTo most x = (1 ≤ x) × (x ≤ most)
+
 -- The rules of a sheet but for its length.
 pub record Proper (s : List ℕ) : Type 0 where
   pub frame : frameCount s ≡ 1
-  pub map-width : (1 ≤ mapWidth s) × (mapWidth s ≤ 4096)
-  pub map-height : (1 ≤ mapHeight s) × (mapHeight s ≤ 4096)
-  pub label-width : (1 ≤ labelWidth s) × (labelWidth s ≤ 256)
-  pub label-height : (1 ≤ labelHeight s) × (labelHeight s ≤ 256)
+  pub map-width : UpTo 4096 (mapWidth s)
+  pub map-height : UpTo 4096 (mapHeight s)
+  pub label-width : UpTo 256 (labelWidth s)
+  pub label-height : UpTo 256 (labelHeight s)
   pub few : pointCount s ≤ 32
-  pub call-number : (i : ℕ) → i < pointCount s → (1 ≤ callNumber s i) × (callNumber s i ≤ 9999)
+  pub call-number : (i : ℕ) → i < pointCount s → UpTo 9999 (callNumber s i)
   pub on-map : (i : ℕ) → i < pointCount s → (column s i < mapWidth s) × (row s i < mapHeight s)
   pub calls : (i j : ℕ) → i < pointCount s → j < pointCount s → callNumber s i ≡ callNumber s j → i ≡ j
   pub rows : DistinctRows (pointsOf s)
@@ -45,7 +49,7 @@ none-ask {b} k pos d e = record {
 pub none-left : NoneOf 0 (Unit {0})
 none-left = record { is = λ e. tt; of = λ t. refl }
 
-pub dec-upTo : (most x : ℕ) → Decides (upTo most x) ((1 ≤ x) × (x ≤ most))
+pub dec-upTo : (most x : ℕ) → Decides (upTo most x) (UpTo most x)
 dec-upTo most x = dec-and (dec-le _ _) (dec-le _ _)
 
 -- What f gives to i it gives to no position below i.
@@ -72,7 +76,7 @@ unlike-all f m d i l j k e = let q : j ≡ i = d j i (omega arith) l e in omega 
 -- The rules of one point.
 PointProper : List ℕ → ℕ → Type 0
 PointProper s i =
-    ((1 ≤ callNumber s i) × (callNumber s i ≤ 9999)) × (((column s i < mapWidth s) × (row s i < mapHeight s)) × (Unlike (callNumber s) i × (Unlike (row s) i × Unit {0})))
+    UpTo 9999 (callNumber s i) × (((column s i < mapWidth s) × (row s i < mapHeight s)) × (Unlike (callNumber s) i × (Unlike (row s) i × Unit {0})))
 
 none-point : (s : List ℕ) (i : ℕ) → NoneOf (pointNo s i) (PointProper s i)
 unfolding pointNo PointProper
@@ -100,7 +104,7 @@ none-points s (suc m) = record {
 -- What all the questions ask, where `Fits` is what 16 asks.
 Asked : List ℕ → Type 0 → Type 0
 Asked s Fits =
-    (10 ≤ length s) × ((frameCount s ≡ 1) × ((((1 ≤ mapWidth s) × (mapWidth s ≤ 4096)) × ((1 ≤ mapHeight s) × (mapHeight s ≤ 4096))) × ((((1 ≤ labelWidth s) × (labelWidth s ≤ 256)) × ((1 ≤ labelHeight s) × (labelHeight s ≤ 256))) × ((pointCount s ≤ 32) × (Fits × ((i : ℕ) → i < pointCount s → PointProper s i))))))
+    (10 ≤ length s) × ((frameCount s ≡ 1) × ((UpTo 4096 (mapWidth s) × UpTo 4096 (mapHeight s)) × ((UpTo 256 (labelWidth s) × UpTo 256 (labelHeight s)) × ((pointCount s ≤ 32) × (Fits × ((i : ℕ) → i < pointCount s → PointProper s i))))))
 
 none-questions : (s : List ℕ) {fits : Bool} {Fits : Type 0} → Decides fits Fits → NoneOf (questionsNo s fits) (Asked s Fits)
 unfolding questionsNo Asked

@@ -7,9 +7,6 @@ use Rattle.labeling.specs.Points.{Points, Choice, Pixel, outsideBelow, o
 use Rattle.labeling.specs.Marks.{Marks, Valid}
 use Rattle.labeling.specs.Best.{Agree, weightBelow, weight}
 
-pub agree-refl : (P : Points) (S : Choice) → Agree P S S
-agree-refl P S = record { at = λ i l. refl }
-
 pub agree-sym : (P : Points) (S R : Choice) → Agree P S R → Agree P R S
 agree-sym P S R a = record { at = λ i l. sym (a .at i l) }
 
