@@ -28,8 +28,8 @@ points (suc m) = at (suc m) 0 m (points m)
 
 abbrev pub table : List Row
 table =
-    -- accepted: P1; no point at all
-    row 0 sheet1 ∷ row 0 (sheet 4 2 0 []) ∷
+    -- accepted: P1; no point at all; sides of 1
+    row 0 sheet1 ∷ row 0 (sheet 4 2 0 []) ∷ row 0 (1 ∷ 1 ∷ 0 ∷ 1 ∷ 0 ∷ 1 ∷ 0 ∷ 1 ∷ 0 ∷ 0 ∷ []) ∷
     -- "Are there at least 10 bytes? 11": none; 9; it is asked before 12
     row 11 [] ∷ row 11 (1 ∷ 20 ∷ 0 ∷ 12 ∷ 0 ∷ 4 ∷ 0 ∷ 2 ∷ 0 ∷ []) ∷ row 11 (0 ∷ []) ∷
     -- "Is the first byte 1? 12": 0; 2; it is asked before 13
