@@ -51,17 +51,11 @@ fn proved(sheet: &[u8], output: &mut [u8], workspace: &mut [u16]) -> Result<usiz
 }
 
 type Make = fn(&[u8], &mut [u8], &mut [u16]) -> Result<usize, u8>;
-/// The yardstick, the proved library, and two faster Rust makers.
-const MAKERS: [Make; 4] = [
-    baseline::make,
-    proved,
-    baseline::make_with_lists,
-    masks::make,
-];
+/// The yardstick, the proved library, and a faster Rust maker.
+const MAKERS: [Make; 3] = [baseline::make, proved, masks::make];
 const RUST: usize = 0;
 const PROVED: usize = 1;
-const LISTS: usize = 2;
-const MASKS: usize = 3;
+const MASKS: usize = 2;
 
 /// What a making with filled buffers leaves: the answer; the plate's sheet
 /// bytes and inside count; whether the rest is as document 01 says.
@@ -125,9 +119,9 @@ fn disagreements(family: &Family) -> usize {
 
 /// Each maker's microseconds a sheet, every sheet at its best round. The makers
 /// take turns on each sheet, and each round begins with another one.
-fn times(family: &Family, output: &mut [u8], workspace: &mut [u16]) -> [f64; 4] {
+fn times(family: &Family, output: &mut [u8], workspace: &mut [u16]) -> [f64; 3] {
     let count = family.sheets.len();
-    let mut best = vec![[Duration::MAX; 4]; count];
+    let mut best = vec![[Duration::MAX; 3]; count];
     for round in 0..ROUNDS {
         for (sheet, best) in family.sheets.iter().zip(&mut best) {
             for turn in 0..MAKERS.len() {
@@ -139,7 +133,7 @@ fn times(family: &Family, output: &mut [u8], workspace: &mut [u16]) -> [f64; 4] 
             }
         }
     }
-    [RUST, PROVED, LISTS, MASKS].map(|which| {
+    [RUST, PROVED, MASKS].map(|which| {
         let whole: Duration = best.iter().map(|best| best[which]).sum();
         whole.as_secs_f64() * 1e6 / count as f64
     })
@@ -149,12 +143,12 @@ fn main() -> ExitCode {
     println!("Making a plate, microseconds a sheet: {SHEETS} sheets a family, each at the best of");
     println!("{ROUNDS} rounds, the makers by turns in one process. The ratio is proved to Rust.");
     println!("Buffers are allocated once and not cleared before a call: the workspace is zero,");
-    println!("as the call before left it. \"Rust\" has the proved library's loops; \"lists\" and");
-    println!("\"masks\" are other Rust makers of the same recurrence.");
+    println!("as the call before left it. \"Rust\" has the proved library's loops; \"masks\" is");
+    println!("another Rust maker of the same recurrence, which keeps sets of points as bits.");
     println!();
     println!(
-        "{:<21}{:>6}{:>9}{:>9}{:>8}{:>9}{:>8}",
-        "family", "points", "Rust", "proved", "ratio", "lists", "masks"
+        "{:<21}{:>6}{:>9}{:>9}{:>8}{:>9}",
+        "family", "points", "Rust", "proved", "ratio", "masks"
     );
     let mut output = vec![0; OUTPUT];
     let mut workspace = vec![0; WORKSPACE];
@@ -164,13 +158,12 @@ fn main() -> ExitCode {
         wrong += disagreements(&family);
         let best = times(&family, &mut output, &mut workspace);
         println!(
-            "{:<21}{:>6}{:>9.2}{:>9.2}{:>8.2}{:>9.2}{:>8.2}",
+            "{:<21}{:>6}{:>9.2}{:>9.2}{:>8.2}{:>9.2}",
             family.name,
             family.points,
             best[RUST],
             best[PROVED],
             best[PROVED] / best[RUST],
-            best[LISTS],
             best[MASKS]
         );
         if family.name == "random" {

@@ -5,7 +5,7 @@ use crate::sheets::{any, families, sheet, Random};
 use crate::{baseline, masks};
 
 type Make = fn(&[u8], &mut [u8], &mut [u16]) -> Result<usize, u8>;
-const MAKERS: [Make; 3] = [baseline::make, baseline::make_with_lists, masks::make];
+const MAKERS: [Make; 2] = [baseline::make, masks::make];
 
 fn made(make: Make, sheet: &[u8]) -> Result<Vec<u8>, u8> {
     let mut output = vec![0xa5; 300];

@@ -4,13 +4,16 @@ use mathlib.Core.Path.{_≡_, sym, _∙_}
 use mathlib.Core.Bool.{Bool, true, false}
 use mathlib.Core.List.{List}
 use Prim.Native.Nat.{ℕ, _+_, _-_, _≤_, _<_}
+use borrow.Author.Tests.{ne-eqb}
 use native.Mathlib.Omega.{arith}
 use Rattle.labeling.specs.Tests.{clash, same}
 use Rattle.labeling.specs.Recurrence.{Heights, value, reachesOver}
+use Rattle.labeling.specs.RecurrenceTests.{greatest-most}
+use Rattle.labeling.specs.Comparisons.{topOf, top-below}
 use Rattle.plate_maker.specs.Arrays.{heightsOf, Packed}
 use Rattle.plate_maker.specs.Places.{placeOf, place-same}
 use Rattle.plate_maker.specs.Words.{withValue, value-with, value-other}
-use Rattle.plate_maker.specs.Table.{limit, fitting, Right, Rows, Slabs, Filling, Room, Ready}
+use Rattle.plate_maker.specs.Table.{limit, fitting, Last, Right, Rows, Slabs, Filling, Room, Ready}
 use Rattle.plate_maker.specs.Steps.{fitting-le, fitting-zero}
 
 -- THE TEST OF q
@@ -21,7 +24,26 @@ module _ (H : Heights) (a q : ℕ) where
 
   pub fitting-somebody : (z : Bool) → (q ≡ 0 → ⊥) → z ≡ reachesOver H a q → z ≡ fitting H a q
   unfolding fitting
-  fitting-somebody z ne e = rw (borrow.Author.Tests.ne-eqb q 0 ne) e
+  fitting-somebody z ne e = rw (ne-eqb q 0 ne) e
+
+-- THE LAST q
+
+-- nothing reaches over the lower boundary
+pub last-none : (H : Heights) (a : ℕ) → a ≡ 0 → Last H a 0
+last-none H a e = record { below = omega arith; most = λ q f. omega (arith, fitting-le H a q f) }
+
+-- the topmost point whose label reaches over a point
+pub last-top : (H : Heights) (a r : ℕ) → 1 ≤ a → a ≤ H .n → r ≡ topOf H a → Last H a r
+unfolding fitting topOf
+last-top H a r low high e = record {
+  below = omega (arith, top-below H a low);
+  most = λ q f. same q 0
+      (λ z. omega arith)
+      (λ ne.
+      let over : reachesOver H a q ≡ true = rw (ne-eqb q 0 ne) at f in
+      let l : q ≤ a = fitting-le H a q f in
+      omega (arith, greatest-most (reachesOver H a) (H .n) q (omega arith) over));
+}
 
 -- ONE ENTRY
 
@@ -74,10 +96,10 @@ entry-none {H} {table} {a} {b} {q} x f = record {
 pub filling-first : {H : Heights} {table : List ℕ} {a b : ℕ} → Rows H table b → Slabs H table (a + 1) b → Filling H table a b 0
 filling-first x y = record { rows = x; slabs = y; entries = record { right = λ r m g. absurd (omega arith) } }
 
-pub filling-last : {H : Heights} {table : List ℕ} {a b q : ℕ} → a < q → Filling H table a b q → Slabs H table a b
-filling-last {H} {table} {a} {b} {q} l x = record {
+pub filling-last : {H : Heights} {table : List ℕ} {a b q last : ℕ} → Last H a last → last < q → Filling H table a b q → Slabs H table a b
+filling-last {H} {table} {a} {b} {q} k l x = record {
   right = λ h r m n g. same h a
-      (λ y. rw y (x .entries .right r (omega (arith, fitting-le H h r g)) (rw y at g)))
+      (λ y. let f : fitting H a r ≡ true = rw y at g in rw y (x .entries .right r (omega (arith, k .most r f)) f))
       (λ ne. x .slabs .right h r (omega arith) n g);
 }
 

@@ -20,6 +20,11 @@ limit H a b = min (H .rank a) (H .rank b)
 unfoldable pub fitting : Heights → ℕ → ℕ → Bool
 fitting H a q = eqb q 0 || reachesOver H a q
 
+-- No q above r fits the lower end a.
+pub record Last (H : Heights) (a r : ℕ) : Type 0 where
+  pub below : r ≤ a
+  pub most : (q : ℕ) → fitting H a q ≡ true → q ≤ r
+
 -- A state of the table.
 pub record Proper (H : Heights) (a b q : ℕ) : Type 0 where
   pub order : a < b

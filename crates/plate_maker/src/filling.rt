@@ -3,10 +3,11 @@ ghost use mathlib.Core.Path.{_≡_};
 ghost use Prim.Native.Nat.{_+_, _<_, _≤_};
 ghost use lib.ListN.{length};
 ghost use Rattle.plate_maker.specs.Arrays.{heightsOf, Packed};
-ghost use Rattle.plate_maker.specs.Table.{fitting, Room, Rows, Slabs, Filling};
+ghost use Rattle.plate_maker.specs.Table.{fitting, Last, Room, Rows, Slabs, Filling};
 use crate::conflicts::reaches_over;
 use crate::points::PointArray;
 use crate::points::point_count;
+use crate::points::top_at;
 use crate::table::State;
 use crate::table::place;
 use crate::table::write_value;
@@ -21,6 +22,17 @@ fn has_entry(s: &PointArray, a: usize, q: usize) -> bool
         return true;
     }
     reaches_over(s, a, q)
+}
+
+// The greatest q that the table can have an entry for with the lower end a: the topmost point whose label reaches over a, or 0.
+fn last_reaching(s: &PointArray, a: usize) -> usize
+    requires { ⌜ Packed (now s) × (a ≤ heightsOf (now s) .n) ⌝ }
+    ensures { λ r. ⌜ Last (heightsOf (now (s .entry))) a r ⌝ }
+{
+    if a == 0 {
+        return 0;
+    }
+    top_at(s, a)
 }
 
 // Fills the entry (a, b, q), if the table has it.
@@ -45,8 +57,9 @@ fn fill_slab(s: &PointArray, table: &mut [u16], a: usize, b: usize)
     requires { ⌜ Packed (now s) × Room (now table) × (a < b) × (b ≤ heightsOf (now s) .n + 1) × Rows (heightsOf (now s)) (now table) b × Slabs (heightsOf (now s)) (now table) (a + 1) b ⌝ }
     ensures { λ _. ⌜ (length (now (table .exit)) ≡ length (now (table .entry))) × Rows (heightsOf (now (s .entry))) (now (table .exit)) b × Slabs (heightsOf (now (s .entry))) (now (table .exit)) a b ⌝ }
 {
+    let last = last_reaching(s, a);
     let mut q = 0;
-    while q <= a {
+    while q <= last {
         fill_entry(s, table, a, b, q);
         q += 1;
     }
