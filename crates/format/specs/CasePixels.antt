@@ -7,7 +7,8 @@ use Rattle.labeling.specs.Marks.{marksB}
 use Rattle.labeling.specs.Margin.{among}
 use Rattle.labeling.specs.Looks.{Look, marked, unmarked, Seen, seen}
 use Rattle.format.specs.Sheet.{twoBytes, pointsOf}
-use Rattle.format.specs.Cases.{choiceOf, sheet1, sheet2, sheet8}
+use Rattle.format.specs.Plate.{choiceOf}
+use Rattle.format.specs.Cases.{sheet1, sheet2, sheet8}
 
 -- P1, labels 4 by 2: (4,4) inside; (2,3) outside in margin column 0.
 abbrev pub looks1 : List Look

@@ -1,27 +1,36 @@
 -- Document 01's cases P1 to P10, from the sheet's bytes: one table, one theorem. What the theorem says is in the words of labeling
 -- (valid and best over pixels) and of Plate.antt; the tests only compute it. Assumes nothing.
 use mathlib.Core.Path.{_≡_, refl}
-use mathlib.Core.Bool.{Bool, true, false, not, _&&_}
+use mathlib.Core.Bool.{Bool, true, false, _&&_}
 use mathlib.Core.List.{List, [], _∷_, _++_}
-use Prim.Native.Nat.{ℕ, _≤_}
-use lib.Dec.{T, eqb, leb}
-use borrow.Author.Tests.{eqb-true, leb-true}
+use Prim.Native.Nat.{ℕ}
+use lib.Dec.{T, eqb}
+use borrow.Author.Tests.{eqb-true}
 use Rattle.labeling.specs.Points.{Points, Choice, before, insert, outsideBelow, outside, nextMargin, placedFrom, placed}
 use Rattle.labeling.specs.Marks.{Valid}
 use Rattle.labeling.specs.Conflicts.{conflictB, validB, every}
-use Rattle.labeling.specs.Tests.{clash, and-left, and-right, dec-not}
+use Rattle.labeling.specs.Tests.{clash, and-left, and-right}
 use Rattle.labeling.specs.Pixels.{dec-valid}
 use Rattle.labeling.specs.Margin.{among}
 use Rattle.labeling.specs.Best.{weightBelow, weight, oneEach, OnlyBest, put}
 use Rattle.labeling.specs.Only.{everyChoice, agreeB, behindB, onlyBestB, onlyBestB-is}
-use Rattle.format.specs.Sheet.{twoBytes, labelWidth, pointsOf, unlikeEarlier, pointNo, pointsNo, questionsNo, sheetNo}
-use Rattle.format.specs.Plate.{insideBelow, insideSection, pairs, outsideSection, plateOf}
+use Rattle.format.specs.Sheet.{twoBytes, pointsOf, unlikeEarlier, pointNo, pointsNo, questionsNo, sheetNo, plateSheetNo}
+use Rattle.format.specs.Accepted.{Accepted, accepted}
+use Rattle.format.specs.Plate.{choiceOf, insideBelow, insideSection, pairs, outsideSection, plateOf}
+use Rattle.format.specs.Bytes.{sameBytes, dec-bytes}
+use Rattle.format.specs.declared.clash.ClashKind.{ClashKind}
+use Rattle.format.specs.declared.clash.ClashKind.the-variants.{Labels, LabelAndLeader}
+use Rattle.format.specs.declared.clash.Clash.{Clash}
+use Rattle.format.specs.declared.clash.Clash.the-variants.{None, Between}
+use Rattle.format.specs.FirstClash.{pairClash, firstOf, clashOf, firstClash}
+use Rattle.format.specs.ClashPixels.{Named, first-clash-right}
+use Rattle.format.specs.PlateQuestions.{sheetOf, insideList, outsidePairs, sectionsFit, ascending, pairsRight, sectionsNo, plateNo}
 
--- What a case says of its choice.
+-- What a case says of its choice; of a clash, the two positions and its kind.
 pub data Verdict : Type 0 where
   onlyBest : Verdict
   valid : Verdict
-  clashes : Verdict
+  clashes : (first second : ℕ) → ClashKind → Verdict
 
 -- A sheet, the positions of a choice, what is to hold of that choice, and the bytes that its plate adds to the sheet's.
 pub record Case : Type 0 where
@@ -29,10 +38,6 @@ pub record Case : Type 0 where
   pub inside : List ℕ
   pub verdict : Verdict
   pub added : List ℕ
-
--- The choice with just the listed positions inside.
-abbrev pub choiceOf : List ℕ → Choice
-choiceOf l i = among i l
 
 -- THE TABLE
 
@@ -58,16 +63,20 @@ abbrev pub cases : List Case
 cases =
     -- P1: "The plate adds 02 01 02 01 00 00."
     record { sheet = sheet1; inside = 1 ∷ 2 ∷ []; verdict = onlyBest; added = 2 ∷ 1 ∷ 2 ∷ 1 ∷ 0 ∷ 0 ∷ [] } ∷
+    -- "On P1, a fresh desk gives list ... 01 00 number 2, clash of 0 and 1"
+    record { sheet = sheet1; inside = 0 ∷ []; verdict = clashes 0 1 LabelAndLeader; added = 1 ∷ 0 ∷ 2 ∷ 2 ∷ 0 ∷ 1 ∷ 0 ∷ [] } ∷
     -- P2: "only the third inside; margin columns 1 for the first, 0 for the second"
     record { sheet = sheet2; inside = 2 ∷ []; verdict = onlyBest; added = 1 ∷ 2 ∷ 2 ∷ 1 ∷ 0 ∷ 0 ∷ 1 ∷ [] } ∷
     -- P3: "label 4 by 2, (2,3) and (6,4): both inside"
     record { sheet = sheet 4 2 2 (at 1 2 3 (at 2 6 4 [])); inside = 0 ∷ 1 ∷ []; verdict = onlyBest; added = 2 ∷ 0 ∷ 1 ∷ 0 ∷ [] } ∷
     -- P4: "(2,3) and (5,4): the second alone"
     record { sheet = sheet 4 2 2 (at 1 2 3 (at 2 5 4 [])); inside = 1 ∷ []; verdict = onlyBest; added = 1 ∷ 1 ∷ 1 ∷ 0 ∷ 0 ∷ [] } ∷
+    -- P4's two points both inside
+    record { sheet = sheet 4 2 2 (at 1 2 3 (at 2 5 4 [])); inside = 0 ∷ 1 ∷ []; verdict = clashes 0 1 Labels; added = 2 ∷ 0 ∷ 1 ∷ 0 ∷ [] } ∷
     -- P5: "(4,3) inside and (3,4) outside: valid"
     record { sheet = sheet 4 2 2 (at 1 4 3 (at 2 3 4 [])); inside = 0 ∷ []; verdict = valid; added = 1 ∷ 0 ∷ 1 ∷ 1 ∷ 0 ∷ [] } ∷
     -- P6: "the second at (4,4): a clash"
-    record { sheet = sheet 4 2 2 (at 1 4 3 (at 2 4 4 [])); inside = 0 ∷ []; verdict = clashes; added = 1 ∷ 0 ∷ 1 ∷ 1 ∷ 0 ∷ [] } ∷
+    record { sheet = sheet 4 2 2 (at 1 4 3 (at 2 4 4 [])); inside = 0 ∷ []; verdict = clashes 0 1 LabelAndLeader; added = 1 ∷ 0 ∷ 1 ∷ 1 ∷ 0 ∷ [] } ∷
     -- P7: "(2,3) and (2,5), label 4 by 2: both inside"
     record { sheet = sheet 4 2 2 (at 1 2 3 (at 2 2 5 [])); inside = 0 ∷ 1 ∷ []; verdict = onlyBest; added = 2 ∷ 0 ∷ 1 ∷ 0 ∷ [] } ∷
     -- P8: "h = 3, outside rows 10, 9, 7: columns 0, 1, 2"
@@ -82,12 +91,19 @@ cases =
 abbrev pub Says : Verdict → Points → Choice → Type 0
 Says onlyBest P S = OnlyBest P oneEach S
 Says valid P S = Valid P S
-Says clashes P S = Valid P S → ⊥
+Says (clashes i j k) P S = Named P S i j k
+
+-- What the plate's questions answer: 0, or "Is the choice valid? 44".
+abbrev pub readNo : Verdict → ℕ
+readNo onlyBest = 0
+readNo valid = 0
+readNo (clashes i j k) = 44
 
 pub record Right (c : Case) : Type 0 where
   pub accepted : sheetNo (c .sheet) ≡ 0
   pub verdict : Says (c .verdict) (pointsOf (c .sheet)) (choiceOf (c .inside))
   pub plate : plateOf (c .sheet) (choiceOf (c .inside)) ≡ c .sheet ++ c .added
+  pub read : plateNo (c .sheet ++ c .added) ≡ readNo (c .verdict)
 
 abbrev pub Each : List Case → Type 0
 Each [] = Unit {0}
@@ -95,51 +111,63 @@ Each (c ∷ cs) = Right c × Each cs
 
 -- THE TESTS
 
+abbrev sameKind : ClashKind → ClashKind → Bool
+sameKind Labels Labels = true
+sameKind Labels LabelAndLeader = false
+sameKind LabelAndLeader Labels = false
+sameKind LabelAndLeader LabelAndLeader = true
+
+abbrev sameClash : Clash → ℕ → ℕ → ClashKind → Bool
+sameClash None i j k = false
+sameClash (Between a b m) i j k = eqb a i && (eqb b j && sameKind m k)
+
 abbrev saysB : Verdict → Points → Choice → Bool
 saysB onlyBest P S = onlyBestB P oneEach S
 saysB valid P S = validB P S
-saysB clashes P S = not (validB P S)
-
-abbrev sameBytes : List ℕ → List ℕ → Bool
-sameBytes [] [] = true
-sameBytes [] (y ∷ l) = false
-sameBytes (x ∷ k) [] = false
-sameBytes (x ∷ k) (y ∷ l) = eqb x y && sameBytes k l
+saysB (clashes i j k) P S = sameClash (firstClash P S) i j k
 
 abbrev rightB : Case → Bool
 rightB c =
     let s = c .sheet in
     let S = choiceOf (c .inside) in
-    leb 1 (labelWidth s) && (eqb (sheetNo s) 0 && (saysB (c .verdict) (pointsOf s) S && sameBytes (plateOf s S) (s ++ c .added)))
+    eqb (sheetNo s) 0 && (saysB (c .verdict) (pointsOf s) S && (sameBytes (plateOf s S) (s ++ c .added) && eqb (plateNo (s ++ c .added)) (readNo (c .verdict))))
 
 abbrev eachB : List Case → Bool
 eachB [] = true
 eachB (c ∷ cs) = rightB c && eachB cs
 
-says : (v : Verdict) (P : Points) (S : Choice) → 1 ≤ P .w → saysB v P S ≡ true → Says v P S
-says onlyBest P S pos e = onlyBestB-is P oneEach S pos e
-says valid P S pos e = dec-valid P S pos .is e
-says clashes P S pos e = dec-not (dec-valid P S pos) .is e
+same-kind : (m k : ClashKind) → sameKind m k ≡ true → m ≡ k
+same-kind Labels Labels e = refl
+same-kind Labels LabelAndLeader e = absurd (clash e refl)
+same-kind LabelAndLeader Labels e = absurd (clash e refl)
+same-kind LabelAndLeader LabelAndLeader e = refl
 
-same-bytes : (k l : List ℕ) → sameBytes k l ≡ true → k ≡ l
-same-bytes [] [] e = refl
-same-bytes [] (y ∷ l) e = absurd (clash e refl)
-same-bytes (x ∷ k) [] e = absurd (clash e refl)
-same-bytes (x ∷ k) (y ∷ l) e =
-    let h : x ≡ y = eqb-true x y (and-left _ _ e) in
-    let t : k ≡ l = same-bytes k l (and-right (eqb x y) _ e) in
-    λ i. h i ∷ t i
+same-clash : (c : Clash) (i j : ℕ) (k : ClashKind) → sameClash c i j k ≡ true → c ≡ Between i j k
+same-clash None i j k e = absurd (clash e refl)
+same-clash (Between a b m) i j k e =
+    let e₁ = and-right (eqb a i) _ e in
+    let p : a ≡ i = eqb-true a i (and-left _ _ e) in
+    let q : b ≡ j = eqb-true b j (and-left _ _ e₁) in
+    let r : m ≡ k = same-kind m k (and-right (eqb b j) _ e₁) in
+    λ d. Between (p d) (q d) (r d)
+
+says : (v : Verdict) (s : List ℕ) (S : Choice) → Accepted s → saysB v (pointsOf s) S ≡ true → Says v (pointsOf s) S
+says onlyBest s S a e = onlyBestB-is (pointsOf s) oneEach S (a .proper .label-width .0) e
+says valid s S a e = dec-valid (pointsOf s) S (a .proper .label-width .0) .is e
+says (clashes i j k) s S a e = first-clash-right s S a .between i j k .0 (same-clash _ i j k e)
 
 right : (c : Case) → rightB c ≡ true → Right c
 right c e =
     let s = c .sheet in
     let S = choiceOf (c .inside) in
-    let e₁ = and-right (leb 1 (labelWidth s)) _ e in
-    let e₂ = and-right (eqb (sheetNo s) 0) _ e₁ in
+    let e₁ = and-right (eqb (sheetNo s) 0) _ e in
+    let e₂ = and-right (saysB (c .verdict) (pointsOf s) S) _ e₁ in
+    let ok : sheetNo s ≡ 0 = eqb-true _ _ (and-left _ _ e) in
     record {
-      accepted = eqb-true _ _ (and-left _ _ e₁);
-      verdict = says (c .verdict) (pointsOf s) S (leb-true 1 (labelWidth s) (and-left _ _ e)) (and-left _ _ e₂);
-      plate = same-bytes _ _ (and-right (saysB (c .verdict) (pointsOf s) S) _ e₂);
+      accepted = ok;
+      verdict = says (c .verdict) s S (accepted s ok) (and-left _ _ e₁);
+      plate = dec-bytes _ _ .is (and-left _ _ e₂);
+      read = eqb-true _ _ (and-right (sameBytes (plateOf s S) (s ++ c .added)) _ e₂);
     }
 
 each : (cs : List Case) → eachB cs ≡ true → Each cs
@@ -148,7 +176,7 @@ each (c ∷ cs) e = (right c (and-left _ _ e), each cs (and-right (rightB c) _ e
 
 -- the computation
 all-pass : T (eachB cases)
-unfolding twoBytes unlikeEarlier pointNo pointsNo questionsNo sheetNo insideBelow insideSection pairs outsideSection plateOf among before insert outsideBelow outside nextMargin placedFrom placed conflictB validB every weightBelow weight put everyChoice agreeB behindB onlyBestB
+unfolding twoBytes unlikeEarlier pointNo pointsNo questionsNo sheetNo plateSheetNo insideBelow insideSection pairs outsideSection plateOf among before insert outsideBelow outside nextMargin placedFrom placed conflictB validB every weightBelow weight put everyChoice agreeB behindB onlyBestB pairClash firstOf clashOf firstClash sheetOf insideList outsidePairs sectionsFit ascending pairsRight sectionsNo plateNo
 all-pass = tt
 
 T-is : (b : Bool) → T b → b ≡ true

@@ -4,7 +4,12 @@ use mathlib.Core.List.{List, [], _∷_, _++_}
 use Prim.Native.Nat.{ℕ, zero, suc}
 use lib.ListN.{length}
 use Rattle.labeling.specs.Points.{Choice, Placed, outside, placed}
+use Rattle.labeling.specs.Margin.{among}
 use Rattle.format.specs.Sheet.{pointCount, pointsOf}
+
+-- The choice with just the listed positions inside.
+abbrev pub choiceOf : List ℕ → Choice
+choiceOf l i = among i l
 
 -- "Sections stand in a fixed order, each after its one-byte count": a count and the bytes after it.
 

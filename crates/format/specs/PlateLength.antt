@@ -27,13 +27,13 @@ unfolding placedFrom
 placedFrom-length P j k [] = refl
 placedFrom-length P j k (i ∷ l) = ap suc (placedFrom-length P i (nextMargin P j k i) l)
 
-placed-length : (P : Points) (l : List ℕ) → length (placed P l) ≡ length l
+pub placed-length : (P : Points) (l : List ℕ) → length (placed P l) ≡ length l
 unfolding placed
 placed-length P [] = refl
 placed-length P (j ∷ l) = placedFrom-length P j 0 l
 
 -- each outside point takes two bytes
-pairs-length : (l : List Placed) → length (pairs l) ≡ 2 * length l
+pub pairs-length : (l : List Placed) → length (pairs l) ≡ 2 * length l
 unfolding pairs
 pairs-length [] = refl
 pairs-length (p ∷ l) = let ih : length (pairs l) ≡ 2 * length l = pairs-length l in omega arith

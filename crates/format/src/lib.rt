@@ -1,4 +1,13 @@
 // The bytes of sheets and plates.
+mod clash;
+mod plate;
+
+pub use clash::Clash;
+pub use clash::ClashKind;
+pub use clash::first_clash;
+pub use plate::PlateAnswer;
+pub use plate::inside_list;
+pub use plate::read_plate;
 ghost use mathlib.Core.Path.{_≡_};
 ghost use Prim.Native.Nat.{_+_, _*_, _<_};
 ghost use mathlib.Core.Bool.{_&&_};
