@@ -27,3 +27,4 @@ pub mod Pairs
 pub mod Sections
 pub mod ByPosition
 pub mod BestPlate
+pub mod DemandTwo
