@@ -6,6 +6,10 @@ use Prim.Native.Nat.{ℕ}
 use lib.Dec.{eqb}
 use lib.ListN.{length}
 use borrow.Author.Tests.{not-true}
+use Rattle.format.specs.PlateQuestions.{insideStart, plateNo, handedBackAt}
+use Rattle.format.specs.PlateAnswers.{PlateOutcome, plateOutcome, plateOutcomeOf}
+use Rattle.format.specs.declared.plate.PlateAnswer.{PlateAnswer}
+use Rattle.format.specs.declared.plate.PlateAnswer.the-variants.{Accepted as AcceptedPlate, Refused as RefusedPlate}
 use Rattle.plate_maker.specs.Making.{makingNo, MakeOutcome, makeOutcome, makeOutcomeOf, workspaceAfter, BestOutput, Making}
 use Rattle.plate_maker.specs.declared.MakeAnswer.{MakeAnswer}
 use Rattle.plate_maker.specs.declared.MakeAnswer.the-variants.{Made, Refused}
@@ -17,6 +21,28 @@ pub record MakingExported (s o w : List ℕ) (number written : ℕ) (o′ w′ :
   pub length : written ≡ makeOutcomeOf s number .written
   pub workspace : w′ ≡ workspaceAfter number w
   pub output : cond (eqb number 0) (BestOutput s o o′) (o′ ≡ o)
+
+-- plate_read: the first no, and the stretch that the reader hands back.
+pub record ReadingExported (p : List ℕ) (number start count : ℕ) : Type 0 where
+  pub first-no : number ≡ plateNo p
+  pub at : start ≡ handedBackAt p
+  pub inside : count ≡ plateOutcomeOf p .inside
+
+-- FROM READ_PLATE'S CONTRACT
+
+pub exported-accepted : (p : List ℕ) (a : PlateAnswer) (i start : ℕ) → plateOutcome a ≡ plateOutcomeOf p → a ≡ AcceptedPlate i → start ≡ insideStart p → ReadingExported p 0 start i
+unfolding handedBackAt
+exported-accepted p a i start e q s =
+    let f : plateOutcome (AcceptedPlate i) ≡ plateOutcomeOf p = ap plateOutcome (sym q) ∙ e in
+    let z : 0 ≡ plateNo p = λ d. f d .number in
+    record { first-no = z; at = rw (← z) s; inside = λ d. f d .inside }
+
+pub exported-refused-plate : (p : List ℕ) (a : PlateAnswer) (k : ℕ) → plateOutcome a ≡ plateOutcomeOf p → a ≡ RefusedPlate k → ReadingExported p k 0 0
+unfolding handedBackAt
+exported-refused-plate p a k e q =
+    let f : plateOutcome (RefusedPlate k) ≡ plateOutcomeOf p = ap plateOutcome (sym q) ∙ e in
+    let g : eqb (plateNo p) 0 ≡ false = not-true _ (sym (λ d. f d .refused)) in
+    record { first-no = λ d. f d .number; at = rw g; inside = λ d. f d .inside }
 
 -- FROM MAKE'S PROMISE
 

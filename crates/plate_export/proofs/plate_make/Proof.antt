@@ -1,10 +1,8 @@
+-- `plate_export::plate_make` meets its contract. Assumes nothing.
 use borrow.Author.Needs.{needs}
 use Rattle.plate_export.specs.Exported.{exported-made, exported-refused}
 use Rattle.plate_export.proofs.plate_make.Statement.{statement}
 use Rattle.plate_export.proofs.plate_make.Tie as tie
-use Rattle.plate_export.proofs.plate_make.Reads as reads
-use Rattle.plate_export.proofs.plate_make.Lts as lts
-use Rattle.plate_maker.proofs.make.Reads as make-reads
 
 make-requires : tie.Need-make-requires
 make-requires c κs = search needs
