@@ -1,0 +1,62 @@
+-- `desk::Desk::load` meets its contract. Assumes nothing.
+use mathlib.Core.Path.{ap, _∙_}
+use borrow.Author.Needs.{needs}
+use Rattle.desk.specs.declared.LoadAnswer.the-variants.{Accepted}
+use Rattle.desk.proofs.Laws.{refused-load, made-short, made-load}
+use Rattle.desk.proofs.Desk.load.Statement.{statement}
+use Rattle.desk.proofs.Desk.load.Tie as tie
+
+blank-plate-requires : tie.Need-blank-plate-requires
+blank-plate-requires c κs = search needs
+
+slice-aggregate-make : tie.Need-slice-aggregate-make
+slice-aggregate-make c = search needs
+
+make-requires : tie.Need-make-requires
+make-requires c κs = search needs
+
+enum-known-no : tie.Need-enum-known-no
+enum-known-no c = search needs
+
+enum-told : tie.Need-enum-told
+enum-told c = search needs
+
+slice-aggregate-inside-count : tie.Need-slice-aggregate-inside-count
+slice-aggregate-inside-count c = search needs
+
+inside-count-requires : tie.Need-inside-count-requires
+inside-count-requires c κs = search needs
+
+with-sheet-requires : tie.Need-with-sheet-requires
+with-sheet-requires c κs = made-short _ _ _ _ _ _ (c .before .before .before .before .before .before .before .before .before .before .blank-plate .ensures) (c .before .before .before .before .before .before .before .make .ensures) _ (c .before .before .enum-told .given .1)
+
+same-length : tie.Need-same-length
+same-length c = search needs
+
+returns : tie.Need-returns
+returns c = refused-load _ _ _ _ _ _ (c .before .before .before .before .before .before .before .before .before .blank-plate .ensures) (c .before .before .before .before .before .before .make .ensures) _ _ (c .before .no .given .1)
+
+same-length-2 : tie.Need-same-length-2
+same-length-2 c = search needs
+
+returns-2 : tie.Need-returns-2
+returns-2 c =
+    let m = made-load _ _ _ _ _ _ (c .before .before .before .before .before .before .before .before .before .before .before .blank-plate .ensures) (c .before .before .before .before .before .before .before .before .make .ensures) _ _ _ (c .before .before .before .enum-told .given .1) (c .before .inside-count .ensures) in
+    (ap (λ d. record { desk = d; answer = Accepted }) (c .with-sheet .ensures) ∙ m .0, m .1)
+
+pub load-spec : {M : Type 1} → statement M
+load-spec =
+    tie.close
+    (tie.spec
+    blank-plate-requires
+    slice-aggregate-make
+    make-requires
+    enum-known-no
+    enum-told
+    slice-aggregate-inside-count
+    inside-count-requires
+    with-sheet-requires
+    same-length
+    returns
+    same-length-2
+    returns-2)

@@ -1,0 +1,54 @@
+-- `desk::Desk::verdict_on` meets its contract. Assumes nothing.
+use borrow.Author.Needs.{needs}
+use Rattle.desk.proofs.Laws.{verdict-clash, verdict-valid}
+use Rattle.desk.proofs.Desk.verdict_on.Statement.{statement}
+use Rattle.desk.proofs.Desk.verdict_on.Tie as tie
+
+slice-aggregate-first-clash : tie.Need-slice-aggregate-first-clash
+slice-aggregate-first-clash c = search needs
+
+sub-first-clash : tie.Need-sub-first-clash
+sub-first-clash c = search needs
+
+part-first-clash-start : tie.Need-part-first-clash-start
+part-first-clash-start c = search needs
+
+part-first-clash-end : tie.Need-part-first-clash-end
+part-first-clash-end c = search needs
+
+first-clash-requires : tie.Need-first-clash-requires
+first-clash-requires c κs = search needs
+
+enum-known-first : tie.Need-enum-known-first
+enum-known-first c = search needs
+
+enum-told : tie.Need-enum-told
+enum-told c = search needs
+
+list-count-requires : tie.Need-list-count-requires
+list-count-requires c κs = search needs
+
+shortfall-of-requires : tie.Need-shortfall-of-requires
+shortfall-of-requires c κs = search needs
+
+returns : tie.Need-returns
+returns c = verdict-clash _ _ _ (c .before .before .before .first-clash .ensures) (c .before .first .given .1)
+
+returns-2 : tie.Need-returns-2
+returns-2 c = verdict-valid _ _ _ (c .before .before .before .before .first-clash .ensures) (c .before .before .enum-told .given .1) (c .before .list-count .ensures) (c .shortfall-of .ensures)
+
+pub verdict-on-spec : {M : Type 1} → statement M
+verdict-on-spec =
+    tie.close
+    (tie.spec
+    slice-aggregate-first-clash
+    sub-first-clash
+    part-first-clash-start
+    part-first-clash-end
+    first-clash-requires
+    enum-known-first
+    enum-told
+    list-count-requires
+    shortfall-of-requires
+    returns
+    returns-2)

@@ -1,0 +1,148 @@
+-- Facts about the questions and the bytes, for the proofs of this crate. Assumes nothing.
+use mathlib.Core.Path.{_≡_, refl, sym, ap, ap₂, _∙_}
+use mathlib.Core.Bool.{Bool, true, false, not, true≢false}
+use mathlib.Core.List.{List, [], _∷_, _++_}
+use Prim.Native.Nat.{ℕ, zero, suc, _+_, _-_, _*_, _≤_, _<_}
+use lib.Dec.{ltb, eqb}
+use lib.ListN.{length, getD, set, take, drop, replicate, length-drop}
+use lib.Seq.{take-all}
+use borrow.Author.Tests.{eq-eqb, ne-eqb, eqb-true, le-leb}
+use native.Mathlib.Omega.{arith}
+use native.Mathlib.Numerals.{add-one}
+use Rattle.labeling.specs.Tests.{decide, same, Decides}
+use Rattle.labeling.specs.Best.{bestCount}
+use Rattle.format.specs.Sheet.{pointCount, pointsOf, sheetNo}
+use Rattle.format.specs.Accepted.{accepted}
+use Rattle.format.specs.declared.clash.ClashKind.{ClashKind}
+use Rattle.format.specs.declared.clash.Clash.{Clash}
+use Rattle.format.specs.declared.clash.Clash.the-variants.{None, Between}
+use Rattle.format.specs.Plate.{choiceOf}
+use Rattle.format.specs.FirstClash.{firstClash}
+use Rattle.format.specs.PlateQuestions.{insideCount}
+use Rattle.plate_maker.specs.Making.{buffersNo, makingNo, makeOutcome, BestOutput, Making, workspaceAfter}
+use Rattle.plate_maker.specs.declared.MakeAnswer.{MakeAnswer}
+use Rattle.plate_maker.specs.declared.MakeAnswer.the-variants.{Made, Refused as RefusedMaking}
+use Rattle.desk.specs.Questions.{loadNo, listCount, aboveBefore, entryNo, entriesNo}
+use Rattle.desk.specs.Desk.{noSheet, padded, withSheet, loadOf, verdictBy, verdictOf}
+use Rattle.desk.specs.Blank.{blankPlate}
+use Rattle.desk.specs.DeskLaws.{load-yes, load-no, none-load}
+use Rattle.desk.specs.Loaded.{plate-count}
+use Rattle.desk.specs.declared.Desk.{Desk}
+use Rattle.desk.specs.declared.LoadAnswer.the-variants.{Accepted as AcceptedSheet, Refused}
+use Rattle.desk.specs.declared.Verdict.the-variants.{Valid, Clash as ClashVerdict}
+
+-- a fact that does not hold
+pub decides-no : {b : Bool} {A : Type 0} → Decides b A → (A → ⊥) → b ≡ false
+decides-no {b} d f = decide b (λ e. absurd (f (d .is e))) (λ e. e)
+
+-- the bytes after the first, as the code lends them
+pub all-after : (l : List ℕ) → take (length l - 1) (drop 1 l) ≡ drop 1 l
+all-after l = take-all (length l - 1) (drop 1 l) (omega (arith, length-drop 1 l))
+
+-- ENTRY BY ENTRY
+
+-- an entry with one before it
+pub above-entry : (p : List ℕ) (k : ℕ) → (k ≡ 0 → ⊥) → aboveBefore p k ≡ ltb (getD p (k - 1) 0) (getD p k 0)
+above-entry p zero ne = absurd (ne refl)
+above-entry p (suc k) ne = ap (λ j. ltb (getD p j 0) (getD p (suc k) 0)) (let q : k ≡ suc k - 1 = omega arith in q)
+
+-- the first entry
+pub above-first : (p : List ℕ) (k : ℕ) → k ≡ 0 → aboveBefore p k ≡ true
+above-first p k e = rw e
+
+-- one more entry without a no
+pub entries-more : (n : ℕ) (p : List ℕ) (m : ℕ) → entriesNo n p m ≡ 0 → entryNo n p m ≡ 0 → entriesNo n p (m + 1) ≡ 0
+unfolding entriesNo
+entries-more n p m e q = rw (add-one, eq-eqb (entriesNo n p m) 0 e) q
+
+-- the first entry with a no decides
+pub entries-first : (n : ℕ) (p : List ℕ) (m k : ℕ) → entriesNo n p m ≡ 0 → (entryNo n p m ≡ 0 → ⊥) → m < k → entryNo n p m ≡ entriesNo n p k
+unfolding entriesNo
+entries-first n p m zero e ne l = absurd (omega arith)
+entries-first n p m (suc k) e ne l =
+    same m k
+    (λ q. rw (← q, eq-eqb (entriesNo n p m) 0 e))
+    (λ no.
+    let ih : entryNo n p m ≡ entriesNo n p k = entries-first n p m k e ne (omega arith) in
+    rw (ne-eqb (entriesNo n p k) 0 (λ z. ne (ih ∙ z))) ih)
+
+-- COPYING BYTES: after k stores the bytes are the first k of s, and the rest of d
+
+copy-suc : (d s : List ℕ) (k : ℕ) → k < length d → k < length s → set (take k s ++ drop k d) k (getD s k 0) ≡ take (suc k) s ++ drop (suc k) d
+copy-suc [] s k l m = absurd (omega arith)
+copy-suc (y ∷ d) [] k l m = absurd (omega arith)
+copy-suc (y ∷ d) (x ∷ s) zero l m = refl
+copy-suc (y ∷ d) (x ∷ s) (suc k) l m = ap (λ r. x ∷ r) (copy-suc d s k (omega arith) (omega arith))
+
+pub copy-more : (d s : List ℕ) (k : ℕ) → k < length d → k < length s → set (take k s ++ drop k d) k (getD s k 0) ≡ take (k + 1) s ++ drop (k + 1) d
+copy-more d s k l m = rw add-one (copy-suc d s k l m)
+
+drop-zeros : (n k : ℕ) → _≡_ {A = List ℕ} (drop k (replicate n 0)) (replicate (n - k) 0)
+drop-zeros n zero = ap (λ j. replicate j 0) (let q : n ≡ n - 0 = omega arith in q)
+drop-zeros zero (suc k) = ap (λ j. replicate j 0) (let q : 0 ≡ 0 - suc k = omega arith in q)
+drop-zeros (suc n) (suc k) = drop-zeros n k ∙ ap (λ j. replicate j 0) (let q : n - k ≡ suc n - suc k = omega arith in q)
+
+-- all of s is copied over the bytes of no sheet
+pub copied : (s : List ℕ) (k : ℕ) → length s ≡ k → take k s ++ drop k noSheet ≡ padded s
+unfolding padded noSheet
+copied s k e = ap₂ (λ a b. a ++ b) (take-all k s (omega arith)) (drop-zeros 202 k ∙ ap (λ j. replicate (202 - j) 0) (sym e))
+
+pub no-sheet-length : length noSheet ≡ 202
+unfolding noSheet
+no-sheet-length = refl
+
+-- THE VERDICT, by the first clash x
+
+module _ (d : Desk) (l : List ℕ) (x : Clash) (first : x ≡ firstClash (pointsOf (d .sheet)) (choiceOf (take (length l - 1) (drop 1 l)))) where
+  by-clash : verdictOf d l ≡ verdictBy x (listCount l) (d .best)
+  unfolding verdictOf
+  by-clash = ap (λ y. verdictBy y (listCount l) (d .best)) (sym (first ∙ ap (λ p. firstClash (pointsOf (d .sheet)) (choiceOf p)) (all-after l)))
+
+  pub verdict-clash : {i j : ℕ} {k : ClashKind} → x ≡ Between i j k → ClashVerdict i j k ≡ verdictOf d l
+  verdict-clash e = sym (by-clash ∙ ap (λ y. verdictBy y (listCount l) (d .best)) e)
+
+  pub verdict-valid : {count shortfall : ℕ} → x ≡ None → count ≡ listCount l → shortfall ≡ d .best - count → Valid count shortfall ≡ verdictOf d l
+  verdict-valid e c s = ap₂ Valid c (s ∙ ap (λ n. d .best - n) c) ∙ sym (by-clash ∙ ap (λ y. verdictBy y (listCount l) (d .best)) e)
+
+-- LOADING, from the promise of make
+
+-- a plate of at most 32 points has room in 268 bytes, so 21 never comes
+making-load : (s : List ℕ) (cells : ℕ) → makingNo s 268 cells ≡ loadNo s cells
+unfolding makingNo buffersNo loadNo
+making-load s cells =
+    decide (eqb (sheetNo s) 0)
+    (λ e.
+    let few : pointCount s ≤ 32 = accepted s (eqb-true _ _ e) .proper .few in
+    rw (e, le-leb (12 + 8 * pointCount s) 268 (omega arith)) refl)
+    (λ e. rw e refl)
+
+module _ (s o w o′ w′ : List ℕ) (answer : MakeAnswer) (blank : o ≡ blankPlate) (m : Making s o w answer o′ w′) where
+  -- the number of make's answer is the load's first no
+  load-number : makeOutcome answer .number ≡ loadNo s (length w)
+  unfolding blankPlate
+  load-number = (λ i. m .outcome i .number) ∙ ap (λ l. makingNo s (length l) (length w)) blank ∙ making-load s (length w)
+
+  pub refused-load : (d : Desk) (k : ℕ) → answer ≡ RefusedMaking k → (record { desk = d; answer = Refused k } ≡ loadOf d s w) × (w′ ≡ workspaceAfter k w)
+  refused-load d k e =
+      let n : Making s o w (RefusedMaking k) o′ w′ = rw e at m in
+      let z : k ≡ loadNo s (length w) = sym (ap (λ a. makeOutcome a .number) e) ∙ load-number in
+      let ne : (loadNo s (length w) ≡ 0 → ⊥) = λ y. true≢false ((λ i. n .outcome i .refused) ∙ ap (λ j. not (eqb j 0)) (sym (λ i. n .outcome i .number) ∙ z ∙ y)) in
+      (ap (λ j. record { desk = d; answer = Refused j }) z ∙ sym (load-no d s w ne), n .workspace)
+
+  pub made-accepted : (r : ℕ) → answer ≡ Made r → loadNo s (length w) ≡ 0
+  made-accepted r e = sym load-number ∙ ap (λ a. makeOutcome a .number) e
+
+  pub made-short : (r : ℕ) → answer ≡ Made r → length s ≤ 202
+  made-short r e = let a = none-load s (length w) .is (made-accepted r e) .0 in let l = a .long in let f = a .proper .few in omega arith
+
+  pub made-count : (r : ℕ) → answer ≡ Made r → insideCount o′ ≡ bestCount (pointsOf s)
+  made-count r e =
+      let a = none-load s (length w) .is (made-accepted r e) .0 in
+      let n : Making s o w (Made r) o′ w′ = rw e at m in
+      let b : BestOutput s o o′ = n .output in
+      ap insideCount (b .plate) ∙ plate-count s (b .choice) a _ ∙ b .best
+
+  pub made-load : (d : Desk) (r best : ℕ) → answer ≡ Made r → best ≡ insideCount o′ → (record { desk = withSheet d s best; answer = AcceptedSheet } ≡ loadOf d s w) × (w′ ≡ replicate (length w) 0)
+  made-load d r best e q =
+      let n : Making s o w (Made r) o′ w′ = rw e at m in
+      (ap (λ b. record { desk = withSheet d s b; answer = AcceptedSheet }) (q ∙ made-count r e) ∙ sym (load-yes d s w (made-accepted r e)), n .workspace)

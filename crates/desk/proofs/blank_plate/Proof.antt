@@ -1,0 +1,12 @@
+-- `desk::blank_plate` meets its contract. Assumes nothing.
+use mathlib.Core.Path.{refl}
+use Rattle.desk.specs.Blank.{blankPlate}
+use Rattle.desk.proofs.blank_plate.Statement.{statement}
+use Rattle.desk.proofs.blank_plate.Tie as tie
+
+returns : tie.Need-returns
+unfolding blankPlate
+returns c = refl
+
+pub blank-plate-spec : {M : Type 1} → statement M
+blank-plate-spec = tie.close (tie.spec returns)

@@ -1,0 +1,29 @@
+-- `desk::questions::mark_no` meets its contract. Assumes nothing.
+use mathlib.Core.Path.{refl, sym, _∙_}
+use borrow.Author.Needs.{needs}
+use Rattle.format.specs.Asking.{ask-no, ask-yes, off, on, then-first, then-later}
+use Rattle.desk.specs.Questions.{markNo}
+use Rattle.desk.proofs.questions.mark_no.Statement.{statement}
+use Rattle.desk.proofs.questions.mark_no.Tie as tie
+
+loaded-list-no-requires : tie.Need-loaded-list-no-requires
+loaded-list-no-requires c κs = search needs
+
+returns : tie.Need-returns
+unfolding markNo
+returns c = let e = c .before .loaded-list-no .ensures in then-first _ _ _ (λ z. c .if1 .taken (e ∙ z)) e
+
+number-left-requires : tie.Need-number-left-requires
+number-left-requires c κs = search needs
+
+returns-2 : tie.Need-returns-2
+unfolding markNo
+returns-2 c = then-later _ _ _ (sym (c .before .before .before .loaded-list-no .ensures) ∙ c .before .before .if1 .left) (ask-no _ 52 _ (off _ _ (c .before .number-left .ensures) (c .if2 .taken)))
+
+returns-3 : tie.Need-returns-3
+unfolding markNo
+returns-3 c = then-later _ _ _ (sym (c .before .before .before .loaded-list-no .ensures) ∙ c .before .before .if1 .left) (ask-yes _ 52 _ _ (on _ _ (c .before .number-left .ensures) (c .if2 .left)) refl)
+
+pub mark-no-spec : {M : Type 1} → statement M
+mark-no-spec =
+    tie.close (tie.spec loaded-list-no-requires returns number-left-requires returns-2 returns-3)

@@ -1,0 +1,7 @@
+pub mod Questions
+pub mod Desk
+pub mod Blank
+pub mod Lists
+pub mod DeskLaws
+pub mod Loaded
+pub mod DemandThree
