@@ -1,4 +1,5 @@
 pub mod Sheet
+pub mod Reader
 pub mod Asking
 pub mod Plate
 pub mod Bytes

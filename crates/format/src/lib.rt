@@ -16,6 +16,8 @@ ghost use lib.ListN.{length, getD};
 ghost use Rattle.format.specs.Sheet.{twoBytes, mapWidth, mapHeight, labelWidth, labelHeight, pointCount, callNumber, column as columnOf, row as rowOf, upTo, unlikeEarlier, pointNo, pointsNo, questionsNo, sheetNo};
 ghost use Rattle.format.specs.Answers.{sheetOutcome, outcomeOf};
 
+pub mod reader;
+
 // What check_sheet answers: the sheet is accepted, or refused with the number of its first no.
 pub enum SheetAnswer {
     Accepted,
