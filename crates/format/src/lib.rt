@@ -15,6 +15,8 @@ ghost use lib.Dec.{ltb};
 ghost use lib.ListN.{length, getD};
 ghost use Rattle.format.specs.Sheet.{twoBytes, mapWidth, mapHeight, labelWidth, labelHeight, pointCount, callNumber, column as columnOf, row as rowOf, upTo, unlikeEarlier, pointNo, pointsNo, questionsNo, sheetNo};
 ghost use Rattle.format.specs.Answers.{sheetOutcome, outcomeOf};
+use reader::SheetPoint;
+use reader::walked;
 
 pub mod reader;
 
@@ -117,12 +119,12 @@ fn both_up_to(most: u16, x: u16, y: u16) -> bool
     false
 }
 
-// The column and row of a position are on the map.
-fn on_map(sheet: &[u8], position: u8) -> bool
-    ensures { λ r. ⌜ r ≡ (ltb (columnOf (now (sheet .entry)) position) (mapWidth (now (sheet .entry))) && ltb (rowOf (now (sheet .entry)) position) (mapHeight (now (sheet .entry)))) ⌝ }
+// The column and row of a point are on the map.
+fn on_map(sheet: &[u8], point: SheetPoint) -> bool
+    ensures { λ r. ⌜ r ≡ (ltb (point .column) (mapWidth (now (sheet .entry))) && ltb (point .row) (mapHeight (now (sheet .entry)))) ⌝ }
 {
-    if column(sheet, position) < map_width(sheet) {
-        return row(sheet, position) < map_height(sheet);
+    if point.column < map_width(sheet) {
+        return point.row < map_height(sheet);
     }
     false
 }
@@ -147,10 +149,12 @@ fn unlike_earlier(sheet: &[u8], place: usize, position: u8) -> bool
 fn point_no(sheet: &[u8], position: u8) -> u8
     ensures { λ r. ⌜ r ≡ pointNo (now (sheet .entry)) position ⌝ }
 {
-    if !up_to(9999, call_number(sheet, position)) {
+    let step = walked(sheet, position);
+    let point = step.point;
+    if !up_to(9999, point.call_number) {
         return 17;
     }
-    if !on_map(sheet, position) {
+    if !on_map(sheet, point) {
         return 18;
     }
     if !unlike_earlier(sheet, 10, position) {
@@ -166,16 +170,18 @@ fn point_no(sheet: &[u8], position: u8) -> u8
 fn points_no(sheet: &[u8]) -> u8
     ensures { λ r. ⌜ r ≡ pointsNo (now (sheet .entry)) (pointCount (now (sheet .entry))) ⌝ }
 {
-    let n = point_count(sheet);
     let mut position: u8 = 0;
-    while position < n {
+    loop {
+        let step = walked(sheet, position);
+        if step.left == 0 {
+            return 0;
+        }
         let no = point_no(sheet, position);
         if no != 0 {
             return no;
         }
-        position += 1;
+        position = step.after;
     }
-    0
 }
 
 // The first no of 11 to 20, 0 for none, where `fits` answers 16.

@@ -2,36 +2,22 @@
 use borrow.Author.Needs.{needs}
 use borrow.Author.Tests.{lt-ltb, le-ltb}
 use lib.Dec.{ltb}
-use mathlib.Core.Path.{sym, _∙_, ap₂}
+use mathlib.Core.Path.{sym, _∙_, ap}
 use Rattle.format.proofs.Laws.{and-no, and-yes}
 use Rattle.format.proofs.on_map.Statement.{statement}
 use Rattle.format.proofs.on_map.Tie as tie
 
-column-requires : tie.Need-column-requires
-column-requires c κs = search needs
-
 map-width-requires : tie.Need-map-width-requires
 map-width-requires c κs = search needs
-
-row-requires : tie.Need-row-requires
-row-requires c κs = search needs
 
 map-height-requires : tie.Need-map-height-requires
 map-height-requires c κs = search needs
 
 returns : tie.Need-returns
-returns c = and-yes _ _ _ (ap₂ ltb (sym (c .before .before .before .before .column .ensures)) (sym (c .before .before .before .map-width .ensures)) ∙ lt-ltb _ _ (c .before .before .if1 .taken)) (ap₂ ltb (c .before .row .ensures) (c .map-height .ensures))
+returns c = and-yes _ _ _ (ap (ltb _) (sym (c .before .before .before .before .map-width .ensures)) ∙ lt-ltb _ _ (c .before .before .if1 .taken)) (ap (ltb _) (c .before .map-height .ensures))
 
 returns-2 : tie.Need-returns-2
-returns-2 c = and-no _ _ (ap₂ ltb (sym (c .before .before .column .ensures)) (sym (c .before .map-width .ensures)) ∙ le-ltb _ _ (c .if1 .left))
+returns-2 c = and-no _ _ (ap (ltb _) (sym (c .before .before .map-width .ensures)) ∙ le-ltb _ _ (c .if1 .left))
 
 pub on-map-spec : {M : Type 1} → statement M
-on-map-spec =
-    tie.close
-    (tie.spec
-    column-requires
-    map-width-requires
-    row-requires
-    map-height-requires
-    returns
-    returns-2)
+on-map-spec = tie.close (tie.spec map-width-requires map-height-requires returns returns-2)
