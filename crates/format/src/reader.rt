@@ -68,7 +68,10 @@ pub fn place_after(sheet: &[u8], position: u8) -> u8
 pub fn reader_at<'a>(sheet: &'a [u8], position: u8) -> SheetReader<'a>
     ensures { λ r. ⌜ r ≡ readerAt (sheet .entry) position ⌝ }
 {
-    SheetReader { sheet, next: position }
+    SheetReader {
+        sheet,
+        next: position,
+    }
 }
 
 // How many points are left.
@@ -89,7 +92,10 @@ pub fn next_point<'a>(reader: SheetReader<'a>) -> SheetPoint
 pub fn moved<'a>(reader: SheetReader<'a>) -> SheetReader<'a>
     ensures { λ r. ⌜ r ≡ movedOn (reader .entry) ⌝ }
 {
-    SheetReader { sheet: reader.sheet, next: place_after(reader.sheet, reader.next) }
+    SheetReader {
+        sheet: reader.sheet,
+        next: place_after(reader.sheet, reader.next),
+    }
 }
 
 // WITH PLAIN PARAMETERS
@@ -99,5 +105,9 @@ pub fn walked(sheet: &[u8], position: u8) -> SheetStep
     ensures { λ r. ⌜ r ≡ stepAt (now (sheet .entry)) position ⌝ }
 {
     let reader = reader_at(sheet, position);
-    SheetStep { left: left(reader), point: next_point(reader), after: moved(reader).next }
+    SheetStep {
+        left: left(reader),
+        point: next_point(reader),
+        after: moved(reader).next,
+    }
 }
