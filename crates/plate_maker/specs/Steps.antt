@@ -3,11 +3,11 @@
 use mathlib.Core.Path.{_≡_, refl, sym, _∙_, ap}
 use mathlib.Core.Bool.{Bool, true, false, not}
 use mathlib.Core.List.{List}
-use Prim.Native.Nat.{ℕ, zero, suc, _+_, _-_, _≤_, _<_, max}
+use Prim.Native.Nat.{ℕ, zero, suc, _+_, _-_, _%_, _≤_, _<_, max}
 use native.Mathlib.Numerals.{add-one}
 use native.Mathlib.Omega.{arith}
-use lib.Dec.{eqb}
-use borrow.Author.Tests.{not-true, not-false}
+use lib.Dec.{eqb, ltb}
+use borrow.Author.Tests.{not-true, not-false, ltb-true, ltb-false}
 use Rattle.labeling.specs.Tests.{clash, decide, same, or-right, dec-eq}
 use Rattle.labeling.specs.Recurrence.{Heights, Point, between, reach, reachesOver, value, join, outValue, clear, good, total}
 use Rattle.labeling.specs.RecurrenceTests.{less, Between, dec-between, dec-reaches, Reached, reach-is, newer, older, nobody}
@@ -18,6 +18,17 @@ use Rattle.plate_maker.specs.Words.{valueAt}
 use Rattle.plate_maker.specs.Entry.{join-none, reached, reached-first, reached-last, reached-skip, reached-stop, reached-on}
 use Rattle.plate_maker.specs.Conflicts.{Candidate}
 use Rattle.plate_maker.specs.Table.{limit, fitting, Proper, Ready, Opened, Stepped, Running}
+
+-- THE TEST OF A POINT BETWEEN
+
+-- The distance d of p from the point after a, as it wraps round, is less than that of b exactly if p is between.
+pub between-wrapped : (a p b d : ℕ) → a < b → b < 18446744073709551616 → d < 18446744073709551616 → (d + (a + 1)) % 18446744073709551616 ≡ p → ltb d (b - (a + 1)) ≡ between a p b
+between-wrapped a p b d l m n e =
+    decide (ltb d (b - (a + 1)))
+    (λ z. let z′ : d < b - (a + 1) = ltb-true _ _ z in z ∙ sym (dec-between a p b .of (record { low = omega arith; high = omega arith })))
+    (λ z.
+    let z′ : b - (a + 1) ≤ d = ltb-false _ _ z in
+    decide (between a p b) (λ k. let k′ : Between a p b = dec-between a p b .is k in absurd (omega (arith, k′ .low, k′ .high))) (λ k. z ∙ sym k))
 
 -- WHICH LABELS FIT A STATE
 

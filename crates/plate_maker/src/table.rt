@@ -11,6 +11,7 @@ use crate::points::PointArray;
 use crate::points::four_cells;
 use crate::points::tetrahedral;
 use crate::points::triangular;
+use std::num::wrapping_sub_usize;
 
 // A slab (a, b, q in specs/): its lower and upper ends, each a boundary or an outside point, and the inside point from below whose
 // label reaches over the lower end, or 0.
@@ -20,14 +21,14 @@ pub(crate) struct State {
     pub reaching: usize,
 }
 
-// The point p is strictly between the ends of a slab.
+// The point p is strictly between the ends of a slab. One test is enough: the distance from the lower end wraps round to a great
+// number for a point that isn't above it.
 pub(crate) fn is_between(state: State, p: usize) -> bool
+    requires { ⌜ state .lower < state .upper ⌝ }
     ensures { λ r. ⌜ r ≡ between (state .lower) p (state .upper) ⌝ }
 {
-    if p <= state.lower {
-        return false;
-    }
-    p < state.upper
+    let first = state.lower + 1;
+    wrapping_sub_usize(p, first) < state.upper - first
 }
 
 // The value at a place.

@@ -1,16 +1,21 @@
--- `plate_maker::table::is_between` meets its contract: the tests in turn. Assumes nothing.
-use Rattle.labeling.specs.Recurrence.{between}
-use borrow.Author.Tests.{lt-ltb, le-ltb}
+-- `plate_maker::table::is_between` meets its contract, by the law of the distance that wraps round. Assumes nothing.
+use native.Mathlib.Omega.{arith}
+use borrow.Author.Needs.{needs}
+use Rattle.plate_maker.specs.Steps.{between-wrapped}
 use Rattle.plate_maker.proofs.table.is_between.Statement.{statement}
 use Rattle.plate_maker.proofs.table.is_between.Tie as tie
 
-returns : tie.Need-returns
-unfolding between
-returns c = rw (le-ltb _ _ (c .if1 .taken))
+add-first : tie.Need-add-first
+add-first c = search needs
 
-returns-2 : tie.Need-returns-2
-unfolding between
-returns-2 c = rw (lt-ltb _ _ (c .before .if1 .left))
+wrapping-sub-usize-requires : tie.Need-wrapping-sub-usize-requires
+wrapping-sub-usize-requires c κs = search needs
+
+sub-result : tie.Need-sub-result
+sub-result c = search needs
+
+returns : tie.Need-returns
+returns c = between-wrapped _ _ _ _ (c .before .before .before .pre) (omega arith) (omega arith) (c .before .wrapping-sub-usize .ensures)
 
 pub is-between-spec : {M : Type 1} → statement M
-is-between-spec = tie.close (tie.spec returns returns-2)
+is-between-spec = tie.close (tie.spec add-first wrapping-sub-usize-requires sub-result returns)
