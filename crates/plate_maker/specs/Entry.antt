@@ -8,7 +8,7 @@ use native.Mathlib.Omega.{arith}
 use lib.Dec.{ltb}
 use Rattle.labeling.specs.Tests.{decide}
 use Rattle.labeling.specs.Recurrence.{Heights, between, good, plus, join, value, outValue, inValue, takesIn}
-use Rattle.labeling.specs.RecurrenceTests.{join-of, value-zero, value-skip, value-step, less}
+use Rattle.labeling.specs.RecurrenceTests.{join-of, value-skip, value-step, less}
 use borrow.Author.Tests.{ltb-true, ltb-false}
 
 -- JOINS
@@ -75,10 +75,10 @@ module _ (H : Heights) (t a b q best acc : ℕ) (pos : 1 ≤ acc) where
   unfolding reached
   reached-first = omega (arith, join-first (value H t a b q))
 
-  -- At the end.
-  pub reached-last : reached H 0 a b q best acc ≡ max best acc
+  -- At the end, where no rank below t is open.
+  pub reached-none : value H t a b q ≡ 1 → reached H t a b q best acc ≡ max best acc
   unfolding reached
-  reached-last = rw (value-zero H a b q) (omega (arith, join-last acc pos))
+  reached-none e = rw e (omega (arith, join-last acc pos))
 
   -- The point of rank t isn't between.
   pub reached-skip : between a (H .atRank t) b ≡ false → reached H (suc t) a b q best acc ≡ reached H t a b q best acc

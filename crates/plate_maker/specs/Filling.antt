@@ -1,9 +1,9 @@
 -- How the table fills.
 -- Assumes nothing.
-use mathlib.Core.Path.{_≡_, sym, _∙_}
+use mathlib.Core.Path.{_≡_, sym, _∙_, ap}
 use mathlib.Core.Bool.{Bool, true, false}
 use mathlib.Core.List.{List}
-use Prim.Native.Nat.{ℕ, _+_, _-_, _≤_, _<_}
+use Prim.Native.Nat.{ℕ, _+_, _-_, _≤_, _<_, min}
 use borrow.Author.Tests.{ne-eqb}
 use native.Mathlib.Omega.{arith}
 use Rattle.labeling.specs.Tests.{clash, same}
@@ -13,7 +13,7 @@ use Rattle.labeling.specs.Comparisons.{topOf, top-below}
 use Rattle.plate_maker.specs.Arrays.{heightsOf, Packed}
 use Rattle.plate_maker.specs.Places.{placeOf, place-same}
 use Rattle.plate_maker.specs.Words.{withValue, value-with, value-other}
-use Rattle.plate_maker.specs.Table.{limit, fitting, Last, Right, Rows, Slabs, Filling, Room, Ready}
+use Rattle.plate_maker.specs.Table.{limit, fitting, Last, Right, Rows, Slabs, Filling, Room, Lowest, Ready}
 use Rattle.plate_maker.specs.Steps.{fitting-le, fitting-zero}
 
 -- THE TEST OF q
@@ -108,6 +108,20 @@ slabs-first H table b = record { right = λ h r m n g. absurd (omega arith) }
 
 pub slabs-next : {H : Heights} {table : List ℕ} {a b : ℕ} → 0 < a → Slabs H table a b → Slabs H table (a - 1 + 1) b
 slabs-next {H} {table} {a} {b} l x = let e : a - 1 + 1 ≡ a = omega arith in rw e x
+
+-- No point is between b and b; and a's rank comes in as a descends.
+pub lowest-first : (H : Heights) (b m : ℕ) → Lowest H b b m
+lowest-first H b m = record { least = λ p l u. absurd (omega arith) }
+
+pub lowest-next : {H : Heights} {a b m : ℕ} → 0 < a → Lowest H a b m → Lowest H (a - 1 + 1) b m
+lowest-next {H} {a} {b} {m} l x = let e : a - 1 + 1 ≡ a = omega arith in rw e x
+
+pub lowest-with : {H : Heights} {a b m r k : ℕ} → 0 < a → Lowest H a b m → r ≡ H .rank (a - 1) → k ≡ min m r → Lowest H (a - 1) b k
+lowest-with {H} {a} {b} {m} {r} l x e f = record {
+  least = λ p v u. same p (a - 1)
+      (λ z. omega (arith, ap (H .rank) z))
+      (λ ne. omega (arith, x .least p (omega arith) u));
+}
 
 pub slabs-last : {H : Heights} {table : List ℕ} {a b : ℕ} → a ≤ 0 → Rows H table b → Slabs H table a b → Rows H table (b + 1)
 slabs-last {H} {table} {a} {b} l x y = record {

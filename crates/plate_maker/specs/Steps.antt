@@ -9,15 +9,15 @@ use native.Mathlib.Omega.{arith}
 use lib.Dec.{eqb, ltb}
 use borrow.Author.Tests.{not-true, not-false, ltb-true, ltb-false}
 use Rattle.labeling.specs.Tests.{clash, decide, same, or-right, dec-eq}
-use Rattle.labeling.specs.Recurrence.{Heights, Point, between, reach, reachesOver, value, join, outValue, clear, good, total}
-use Rattle.labeling.specs.RecurrenceTests.{less, Between, dec-between, dec-reaches, Reached, reach-is, newer, older, nobody}
+use Rattle.labeling.specs.Recurrence.{Heights, Point, Sorted, between, reach, reachesOver, value, join, outValue, clear, good, total}
+use Rattle.labeling.specs.RecurrenceTests.{value-zero, value-skip, less, Between, dec-between, dec-reaches, Reached, reach-is, newer, older, nobody}
 use Rattle.labeling.specs.Totals.{all, value-bound}
 use Rattle.plate_maker.specs.Arrays.{heightsOf, Packed}
 use Rattle.plate_maker.specs.Places.{tri, tet, placeOf, place-below}
 use Rattle.plate_maker.specs.Words.{valueAt}
-use Rattle.plate_maker.specs.Entry.{join-none, reached, reached-first, reached-last, reached-skip, reached-stop, reached-on}
+use Rattle.plate_maker.specs.Entry.{join-none, reached, reached-first, reached-none, reached-skip, reached-stop, reached-on}
 use Rattle.plate_maker.specs.Conflicts.{Candidate}
-use Rattle.plate_maker.specs.Table.{limit, fitting, Proper, Ready, Opened, Stepped, Running}
+use Rattle.plate_maker.specs.Table.{limit, fitting, Lowest, Proper, Ready, Opened, Stepped, Running}
 
 -- THE TEST OF A POINT BETWEEN
 
@@ -224,7 +224,16 @@ module _ {H : Heights} {a b q t best acc best′ acc′ : ℕ} {ended ended′ :
   pub running-stop : ended′ ≡ true → best′ ≡ value H (limit H a b) a b q
   running-stop z = sym (x .comes ∙ (ap (λ (u : ℕ). reached H u a b q best acc) (sym prev) ∙ y .off z))
 
-pub running-last : (H : Heights) (a b q t best acc z : ℕ) (ended : Bool) → t ≤ 0 → Running H a b q t best acc ended → z ≡ max best acc → z ≡ value H (limit H a b) a b q
-running-last H a b q t best acc z ended l x e =
-    let t0 : t ≡ 0 = omega arith in
-    e ∙ sym (x .comes ∙ (ap (λ (u : ℕ). reached H u a b q best acc) t0 ∙ reached-last H 0 a b q best acc (x .some)))
+-- Where no rank below t is open, nothing is left to choose.
+pub value-none : {H : Heights} (k : Sorted H) (t a b q m : ℕ) → t ≤ m → t ≤ H .n → Lowest H (a + 1) b m → value H t a b q ≡ 1
+value-none {H} k zero a b q m l u x = value-zero H a b q
+value-none {H} k (suc t) a b q m l u x =
+    let r : H .rank (H .atRank t) ≡ t = k .rank-atRank t (omega arith) in
+    decide (between a (H .atRank t) b)
+    (λ z. let z′ : Between a (H .atRank t) b = dec-between a (H .atRank t) b .is z in absurd (omega (arith, x .least (H .atRank t) (omega (arith, z′ .low)) (z′ .high))))
+    (λ z. value-skip H t a b q z ∙ value-none k t a b q m (omega arith) (omega arith) x)
+
+pub running-last : {H : Heights} {a b q t best acc m : ℕ} {ended : Bool} → Sorted H → limit H a b ≤ H .n → (z : ℕ) → t ≤ m → Lowest H (a + 1) b m → Running H a b q t best acc ended
+    → z ≡ max best acc → z ≡ value H (limit H a b) a b q
+running-last {H} {a} {b} {q} {t} {best} {acc} {m} k u z l w x e =
+    e ∙ sym (x .comes ∙ reached-none H t a b q best acc (x .some) (value-none k t a b q m l (omega (arith, x .below)) w))

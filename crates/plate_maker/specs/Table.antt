@@ -62,6 +62,10 @@ pub record Known (H : Heights) (table : List ℕ) (a b : ℕ) : Type 0 where
 abbrev pub Room : List ℕ → Type 0
 Room table = 26180 ≤ length table
 
+-- No point from a on and below b has a rank below m.
+pub record Lowest (H : Heights) (a b m : ℕ) : Type 0 where
+  pub least : (p : ℕ) → a ≤ p → p < b → m ≤ H .rank p
+
 -- All that one entry is computed from.
 pub record Ready (s table : List ℕ) (a b q : ℕ) : Type 0 where
   pub packed : Packed s

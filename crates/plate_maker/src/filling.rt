@@ -3,15 +3,17 @@ ghost use mathlib.Core.Path.{_≡_};
 ghost use Prim.Native.Nat.{_+_, _<_, _≤_};
 ghost use lib.ListN.{length};
 ghost use Rattle.plate_maker.specs.Arrays.{heightsOf, Packed};
-ghost use Rattle.plate_maker.specs.Table.{fitting, Last, Room, Rows, Slabs, Filling};
+ghost use Rattle.plate_maker.specs.Table.{fitting, Last, Room, Rows, Slabs, Filling, Lowest};
 use crate::conflicts::reaches_over;
 use crate::points::PointArray;
 use crate::points::point_count;
+use crate::points::rank_at;
 use crate::points::top_at;
 use crate::table::State;
 use crate::table::place;
 use crate::table::write_value;
 use crate::values::entry;
+use crate::values::lesser;
 
 // The table has an entry for q with the lower end a: q is 0, or its label reaches over a.
 fn has_entry(s: &PointArray, a: usize, q: usize) -> bool
@@ -35,9 +37,9 @@ fn last_reaching(s: &PointArray, a: usize) -> usize
     top_at(s, a)
 }
 
-// Fills the entry (a, b, q), if the table has it.
-fn fill_entry(s: &PointArray, table: &mut [u16], a: usize, b: usize, q: usize)
-    requires { ⌜ Packed (now s) × Room (now table) × (q ≤ a) × (a < b) × (b ≤ heightsOf (now s) .n + 1) × Filling (heightsOf (now s)) (now table) a b q ⌝ }
+// Fills the entry (a, b, q), if the table has it. No point between a and b has a rank below `lowest`.
+fn fill_entry(s: &PointArray, table: &mut [u16], a: usize, b: usize, q: usize, lowest: usize)
+    requires { ⌜ Packed (now s) × Room (now table) × (q ≤ a) × (a < b) × (b ≤ heightsOf (now s) .n + 1) × Filling (heightsOf (now s)) (now table) a b q × Lowest (heightsOf (now s)) (a + 1) b lowest ⌝ }
     ensures { λ _. ⌜ (length (now (table .exit)) ≡ length (now (table .entry))) × Filling (heightsOf (now (s .entry))) (now (table .exit)) a b (q + 1) ⌝ }
 {
     if !has_entry(s, a, q) {
@@ -48,32 +50,34 @@ fn fill_entry(s: &PointArray, table: &mut [u16], a: usize, b: usize, q: usize)
         upper: b,
         reaching: q,
     };
-    let value = entry(s, &table[..], state);
+    let value = entry(s, &table[..], state, lowest);
     write_value(table, place(s, state), value);
 }
 
-// Fills the entries from a to b.
-fn fill_slab(s: &PointArray, table: &mut [u16], a: usize, b: usize)
-    requires { ⌜ Packed (now s) × Room (now table) × (a < b) × (b ≤ heightsOf (now s) .n + 1) × Rows (heightsOf (now s)) (now table) b × Slabs (heightsOf (now s)) (now table) (a + 1) b ⌝ }
+// Fills the entries from a to b. No point between them has a rank below `lowest`.
+fn fill_slab(s: &PointArray, table: &mut [u16], a: usize, b: usize, lowest: usize)
+    requires { ⌜ Packed (now s) × Room (now table) × (a < b) × (b ≤ heightsOf (now s) .n + 1) × Rows (heightsOf (now s)) (now table) b × Slabs (heightsOf (now s)) (now table) (a + 1) b × Lowest (heightsOf (now s)) (a + 1) b lowest ⌝ }
     ensures { λ _. ⌜ (length (now (table .exit)) ≡ length (now (table .entry))) × Rows (heightsOf (now (s .entry))) (now (table .exit)) b × Slabs (heightsOf (now (s .entry))) (now (table .exit)) a b ⌝ }
 {
     let last = last_reaching(s, a);
     let mut q = 0;
     while q <= last {
-        fill_entry(s, table, a, b, q);
+        fill_entry(s, table, a, b, q, lowest);
         q += 1;
     }
 }
 
-// Fills the entries with the upper end b.
+// Fills the entries with the upper end b. As the lower end a descends, `lowest` is the lowest rank of the points between.
 fn fill_row(s: &PointArray, table: &mut [u16], b: usize)
     requires { ⌜ Packed (now s) × Room (now table) × (b ≤ heightsOf (now s) .n + 1) × Rows (heightsOf (now s)) (now table) b ⌝ }
     ensures { λ _. ⌜ (length (now (table .exit)) ≡ length (now (table .entry))) × Rows (heightsOf (now (s .entry))) (now (table .exit)) (b + 1) ⌝ }
 {
+    let mut lowest = point_count(s);
     let mut a = b;
     while a > 0 {
         a -= 1;
-        fill_slab(s, table, a, b);
+        fill_slab(s, table, a, b, lowest);
+        lowest = lesser(lowest, rank_at(s, a));
     }
 }
 

@@ -4,7 +4,7 @@ ghost use mathlib.Core.Bool.{false};
 ghost use Prim.Native.Nat.{_+_, _<_, _≤_, min, max};
 ghost use Rattle.labeling.specs.Recurrence.{join, value, outValue};
 ghost use Rattle.plate_maker.specs.Arrays.{heightsOf};
-ghost use Rattle.plate_maker.specs.Table.{limit, Ready, Opened, Stepped};
+ghost use Rattle.plate_maker.specs.Table.{limit, Lowest, Ready, Opened, Stepped};
 use crate::conflicts::may_be_inside;
 use crate::conflicts::reaching_over;
 use crate::conflicts::rows_differ;
@@ -26,7 +26,7 @@ pub(crate) struct Run {
 }
 
 // The lesser of two numbers.
-fn lesser(i: usize, j: usize) -> usize
+pub(crate) fn lesser(i: usize, j: usize) -> usize
     ensures { λ r. ⌜ r ≡ min i j ⌝ }
 {
     if j < i {
@@ -116,9 +116,10 @@ pub(crate) fn step(s: &PointArray, table: &[u16], state: State, t: usize, run: R
     }
 }
 
-// The value of a state of the table, by a loop over the ranks of its open points downwards. It ends at a point that may not be inside.
-pub(crate) fn entry(s: &PointArray, table: &[u16], state: State) -> u64
-    requires { ⌜ Ready (now s) (now table) (state .lower) (state .upper) (state .reaching) ⌝ }
+// The value of a state of the table, by a loop over the ranks of its open points downwards, none of which is below `lowest`. It ends at
+// a point that may not be inside.
+pub(crate) fn entry(s: &PointArray, table: &[u16], state: State, lowest: usize) -> u64
+    requires { ⌜ Ready (now s) (now table) (state .lower) (state .upper) (state .reaching) × Lowest (heightsOf (now s)) (state .lower + 1) (state .upper) lowest ⌝ }
     ensures { λ r. ⌜ r ≡ value (heightsOf (now (s .entry))) (limit (heightsOf (now (s .entry))) (state .lower) (state .upper)) (state .lower) (state .upper) (state .reaching) ⌝ }
 {
     let mut t = open_below(s, state.lower, state.upper);
@@ -127,7 +128,7 @@ pub(crate) fn entry(s: &PointArray, table: &[u16], state: State) -> u64
         acc: 1,
         ended: false,
     };
-    while t > 0 {
+    while t > lowest {
         t -= 1;
         run = step(s, table, state, t, run);
         if run.ended {

@@ -14,7 +14,7 @@ returns : tie.Need-returns
 returns c = (refl, entry-none (c .before .before .before .pre .5) (sym (c .before .has-entry .ensures) ∙ not-true _ (c .if1 .taken)))
 
 entry-requires : tie.Need-entry-requires
-entry-requires c κs = entry-ready (c .before .before .before .before .pre .0) (c .before .before .before .before .pre .1) (c .before .before .before .before .pre .3) (c .before .before .before .before .pre .4) (c .before .before .before .before .pre .5) (sym (c .before .before .has-entry .ensures) ∙ not-false _ (c .before .if1 .left))
+entry-requires c κs = (entry-ready (c .before .before .before .before .pre .0) (c .before .before .before .before .pre .1) (c .before .before .before .before .pre .3) (c .before .before .before .before .pre .4) (c .before .before .before .before .pre .5) (sym (c .before .before .has-entry .ensures) ∙ not-false _ (c .before .if1 .left)), c .before .before .before .before .pre .6)
 
 place-requires : tie.Need-place-requires
 place-requires c κs = (c .before .before .before .before .before .before .pre .0, entry-ready (c .before .before .before .before .before .before .pre .0) (c .before .before .before .before .before .before .pre .1) (c .before .before .before .before .before .before .pre .3) (c .before .before .before .before .before .before .pre .4) (c .before .before .before .before .before .before .pre .5) (sym (c .before .before .before .before .has-entry .ensures) ∙ not-false _ (c .before .before .before .if1 .left)) .proper)

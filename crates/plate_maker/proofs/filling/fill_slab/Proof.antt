@@ -11,11 +11,11 @@ use Rattle.plate_maker.proofs.filling.fill_slab.Statement.{statement}
 use Rattle.plate_maker.proofs.filling.fill_slab.Tie as tie
 
 abbrev Inv-loop : tie.InvT-loop
-Inv-loop s table₀ a b last q₀ table q =
+Inv-loop s table₀ a b lowest last q₀ table q =
     (q ≤ last + 1) × (length table ≡ length table₀) × Filling (heightsOf s) table a b q × Last (heightsOf s) a last
 
 abbrev μ-loop : tie.MeasureT-loop
-μ-loop s table₀ a b last q₀ table q = last + 1 - q
+μ-loop s table₀ a b lowest last q₀ table q = last + 1 - q
 
 last-reaching-requires : tie.Need-last-reaching-requires Inv-loop μ-loop
 last-reaching-requires c κs = search needs
@@ -27,7 +27,7 @@ fill-entry-requires : tie.Need-fill-entry-requires Inv-loop μ-loop
 fill-entry-requires c κs =
     let p = c .before .before .before .before .before .pre in
     let i = c .before .before .loop .inv in
-    (p .0, omega (arith, i .1, p .1), omega (arith, i .3 .below, c .before .loop-test .taken), p .2, p .3, i .2)
+    (p .0, omega (arith, i .1, p .1), omega (arith, i .3 .below, c .before .loop-test .taken), p .2, p .3, i .2, p .6)
 
 add-q : tie.Need-add-q Inv-loop μ-loop
 add-q c = search needs
