@@ -43,12 +43,15 @@ pub fn byte_at(bytes: &[u8], at: usize) -> u8
     0 // past the end
 }
 
-// The two-byte number at a place of at most 65,535, low byte first.
+// The two-byte number at a place of at most 65,535, low byte first. A byte past the end is 0.
 fn two_bytes(bytes: &[u8], at: usize) -> u16
     requires { ⌜ at < 65536 ⌝ }
     ensures { λ r. ⌜ r ≡ twoBytes (now (bytes .entry)) at ⌝ }
 {
-    wide(byte_at(bytes, at)) + 256 * wide(byte_at(bytes, at + 1))
+    if at + 1 < bytes.len() {
+        return wide(bytes[at]) + 256 * wide(bytes[at + 1]);
+    }
+    wide(byte_at(bytes, at))
 }
 
 pub fn map_width(sheet: &[u8]) -> u16
