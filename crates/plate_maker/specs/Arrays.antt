@@ -1,11 +1,11 @@
 -- The array that the plate maker works on: every field of the points in height order, one after the other. Assumes nothing.
 use mathlib.Core.Path.{_≡_}
-use mathlib.Core.Bool.{Bool, true}
 use mathlib.Core.List.{List}
 use Prim.Native.Nat.{ℕ, suc, _+_, _*_, _≤_, _<_}
 use lib.Dec.{eqb}
 use lib.ListN.{getD}
 use Rattle.labeling.specs.Recurrence.{Heights, Point, Sorted, total}
+use Rattle.labeling.specs.Totals.{all}
 use Rattle.labeling.specs.Comparisons.{lowOf, highOf, topOf}
 use Rattle.plate_maker.specs.Places.{tri, tet}
 
@@ -37,10 +37,6 @@ heightsOf s = record {
 unfoldable pub positionAt : List ℕ → ℕ → ℕ
 positionAt s i = getD s (480 + i) 0
 
--- Every point, as a choice.
-abbrev pub everyone : ℕ → Bool
-everyone i = true
-
 -- WHAT THE PLATE MAKER ASKS OF THE ARRAY. The points are in height order and few; low, high and top are theirs; the boundaries have
 -- rank n; the two tables of numbers are right; and the whole weight is far below what 64 bits hold.
 pub record Packed (s : List ℕ) : Type 0 where
@@ -53,4 +49,4 @@ pub record Packed (s : List ℕ) : Type 0 where
   pub upper-rank : heightsOf s .rank (suc (heightsOf s .n)) ≡ heightsOf s .n
   pub tri-is : (k : ℕ) → k < 36 → getD s (238 + k) 0 ≡ tri k
   pub tet-is : (k : ℕ) → k < 36 → getD s (274 + k) 0 ≡ tet k
-  pub light : total (heightsOf s) everyone (heightsOf s .n) < 1125899906842624
+  pub light : total (heightsOf s) all (heightsOf s .n) < 1125899906842624

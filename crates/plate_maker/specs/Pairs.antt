@@ -13,6 +13,7 @@ use Rattle.labeling.specs.Tests.{decide}
 use Rattle.labeling.specs.Order.{outside-length}
 use Rattle.labeling.specs.Best.{weightBelow, oneEach}
 use Rattle.format.specs.Plate.{insideBelow, pairs}
+use Rattle.format.specs.PlateLength.{inside-length}
 use Rattle.plate_maker.specs.Written.{written, written-none, written-more}
 use Rattle.plate_maker.specs.Writing.{outsideDown, marginAfter, placedAfter, SoFar}
 
@@ -36,30 +37,6 @@ margin-small P count j k i h =
     (decide (ltb (P .row j) (P .row i + P .h)) (λ f. rw f (omega arith)) (λ f. rw f (omega arith))))
 
 -- LENGTHS
-
-from-length : (P : Points) (j k : ℕ) (l : List ℕ) → length (placedFrom P j k l) ≡ suc (length l)
-unfolding placedFrom
-from-length P j k [] = refl
-from-length P j k (i ∷ l) = ap suc (from-length P i (nextMargin P j k i) l)
-
-pub placed-length : (P : Points) (l : List ℕ) → length (placed P l) ≡ length l
-unfolding placed
-placed-length P [] = refl
-placed-length P (j ∷ l) = from-length P j 0 l
-
-pub pairs-length : (l : List Placed) → length (pairs l) ≡ 2 * length l
-unfolding pairs
-pairs-length [] = refl
-pairs-length (p ∷ l) = let ih : length (pairs l) ≡ 2 * length l = pairs-length l in omega arith
-
-inside-length : (S : Choice) (m : ℕ) → length (insideBelow S m) ≡ weightBelow oneEach S m
-unfolding insideBelow weightBelow
-inside-length S zero = refl
-inside-length S (suc m) =
-    let ih : length (insideBelow S m) ≡ weightBelow oneEach S m = inside-length S m in
-    decide (S m)
-    (λ e. rw e (omega (arith, length-append (insideBelow S m) (m ∷ []))))
-    (λ e. rw e (omega (arith, length-append (insideBelow S m) [])))
 
 -- every position is inside or outside
 pub both-lengths : (P : Points) (S : Choice) (m : ℕ) → length (insideBelow S m) + length (outsideBelow P S m) ≡ m

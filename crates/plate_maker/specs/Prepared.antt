@@ -3,11 +3,12 @@ use mathlib.Core.Path.{sym, _∙_, ap}
 use mathlib.Core.List.{List}
 use Prim.Native.Nat.{ℕ, suc, _+_}
 use native.Mathlib.Omega.{arith}
+use Rattle.labeling.specs.Totals.{all}
 use Rattle.labeling.specs.Recurrence.{total}
 use Rattle.labeling.specs.Positions.{Arranged, AllAllowed}
 use Rattle.labeling.specs.Best.{oneEach}
 use Rattle.format.specs.Sheet.{pointsOf}
-use Rattle.plate_maker.specs.Arrays.{heightsOf, positionAt, everyone, Packed}
+use Rattle.plate_maker.specs.Arrays.{heightsOf, positionAt, Packed}
 use Rattle.plate_maker.specs.Ordered.{Ordered}
 use Rattle.plate_maker.specs.SameHeights.{total-same, arranged-same, allowed-same}
 use Rattle.plate_maker.specs.Limits.{InOrder, Limited, kept-same, kept-position, kept-order}
@@ -39,7 +40,7 @@ prepared {sheet} {s} {r} o m =
         tri-is = λ k l. m .kept .cell (238 + k) (λ a b. omega arith) ∙ o .tri-is k l;
         tet-is = λ k l. m .kept .cell (274 + k) (λ a b. omega arith) ∙ o .tet-is k l;
         light =
-            omega (arith, o .light, ap (total (heightsOf r) everyone) (H .n), total-same H (heightsOf s .n) (omega arith));
+            omega (arith, o .light, ap (total (heightsOf r) all) (H .n), total-same H (heightsOf s .n) (omega arith));
       };
       arranged = arranged-same H (pointsOf sheet) oneEach (positionAt s) (positionAt r) (kept-position (m .kept)) (o .arranged);
       allowed = allowed-same H (o .allowed);

@@ -4,10 +4,10 @@ use mathlib.Core.Bool.{Bool, cond}
 use Prim.Native.Nat.{ℕ, zero, suc, _≤_, _<_}
 use native.Mathlib.Omega.{arith}
 use Rattle.labeling.specs.Points.{Points}
+use Rattle.labeling.specs.Totals.{all}
 use Rattle.labeling.specs.Recurrence.{Heights, Point, Sorted, overlaps, reachesOver, greatest, total}
 use Rattle.labeling.specs.Comparisons.{least, overlapsBelow, overlapsAbove, lowOf, highOf, topOf}
 use Rattle.labeling.specs.Positions.{Arranged, AllAllowed}
-use Rattle.plate_maker.specs.Arrays.{everyone}
 
 -- G has the same points as H, of which there are few, and the same ranks of the boundaries.
 pub record SameHeights (H G : Heights) : Type 0 where
@@ -106,7 +106,7 @@ module _ {H G : Heights} (S : SameHeights H G) where
       ∙ greatest-same (reachesOver G i) (reachesOver H i) (H .n) (λ j k m. reaches-same i j (small i l) (small j m))
 
   -- THE WEIGHTS AND THE POSITIONS
-  pub total-same : (m : ℕ) → m ≤ H .n → total G everyone m ≡ total H everyone m
+  pub total-same : (m : ℕ) → m ≤ H .n → total G all m ≡ total H all m
   unfolding total
   total-same zero l = refl
   total-same (suc m) l = rw (S .weight (suc m) (small (suc m) l), total-same m (omega arith))

@@ -9,13 +9,14 @@ use Rattle.labeling.specs.Points.{Points, outside, placed}
 use Rattle.labeling.specs.Recurrence.{Sorted}
 use Rattle.labeling.specs.Best.{oneEach}
 use Rattle.format.specs.Sheet.{pointCount, pointsOf}
+use Rattle.format.specs.PlateLength.{placed-length, pairs-length}
 use Rattle.format.specs.Plate.{insideSection, outsideSection, plateOf}
 use Rattle.plate_maker.specs.Arrays.{heightsOf, positionAt}
 use Rattle.labeling.specs.Positions.{Arranged}
 use Rattle.plate_maker.specs.Written.{written, written-twice, written-first}
 use Rattle.plate_maker.specs.Writing.{choiceOf, outsideDown, outsidePositions, sectionOf, Writable, Numbered}
 use Rattle.plate_maker.specs.Outside.{down-outside-points}
-use Rattle.plate_maker.specs.Pairs.{placed-length, pairs-length, both-lengths}
+use Rattle.plate_maker.specs.Pairs.{both-lengths}
 
 pub section-length : (P : Points) (l : List ℕ) → length (sectionOf P l) ≡ 1 + 2 * length l
 unfolding sectionOf
@@ -58,9 +59,9 @@ module _ (s heights inside : List ℕ) (W : Writable s (choiceOf inside)) (A : A
       ∙ written-twice d 0 (s ++ I) O (omega (arith, length-append s I))
       ∙ written-first d (s ++ I ++ O))
 
-  pub plate-length : length s + length (insideSection s (choiceOf inside)) + length (sectionOf (pointsOf s) (outsidePositions heights inside)) ≡ length (plateOf s (choiceOf inside))
+  pub sections-length : length s + length (insideSection s (choiceOf inside)) + length (sectionOf (pointsOf s) (outsidePositions heights inside)) ≡ length (plateOf s (choiceOf inside))
   unfolding plateOf
-  plate-length =
+  sections-length =
       let I = insideSection s (choiceOf inside) in
       let O = outsideSection s (choiceOf inside) in
       rw section-is (omega (arith, length-append s I, length-append (s ++ I) O))

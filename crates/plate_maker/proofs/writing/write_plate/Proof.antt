@@ -8,7 +8,7 @@ use Rattle.format.specs.Sheet.{pointsOf}
 use Rattle.format.specs.Plate.{insideSection}
 use Rattle.plate_maker.specs.Written.{written}
 use Rattle.plate_maker.specs.Writing.{choiceOf, outsidePositions, sectionOf}
-use Rattle.plate_maker.specs.Sections.{numbered, sections-room, plate-written, plate-length}
+use Rattle.plate_maker.specs.Sections.{numbered, sections-room, plate-written, sections-length}
 use borrow.Author.Needs.{needs}
 use Rattle.plate_maker.proofs.writing.write_plate.Statement.{statement}
 use Rattle.plate_maker.proofs.writing.write_plate.Tie as tie
@@ -43,7 +43,7 @@ returns c =
     let at : c .before .before .before .before .before .before .write-inside .result ≡ length s + length I = c .before .before .before .before .before .before .write-inside .ensures .0 in
     let one : c .before .before .before .before .before .before .write-inside .last .1 .1 .0 ≡ written (written d 0 s) (length s) I = rw copied at (c .before .before .before .before .before .before .write-inside .ensures .1) in
     let two : c .before .before .write-outside .last .1 .1 .1 .0 ≡ written (written (written d 0 s) (length s) I) (length s + length I) O = rw (one, at) at (c .before .before .write-outside .ensures .1) in
-    (omega (arith, c .before .before .write-outside .ensures .0, plate-length s (a .heights .now) (a .inside .now) (p .0) (p .1) (p .2)), two ∙ plate-written s (a .heights .now) (a .inside .now) (p .0) (p .1) (p .2) d (p .3))
+    (omega (arith, c .before .before .write-outside .ensures .0, sections-length s (a .heights .now) (a .inside .now) (p .0) (p .1) (p .2)), two ∙ plate-written s (a .heights .now) (a .inside .now) (p .0) (p .1) (p .2) d (p .3))
 
 pub write-plate-spec : {M : Type 1} → statement M
 write-plate-spec =
