@@ -4,7 +4,7 @@ use mathlib.Core.Bool.{Bool, true, false, not, _&&_}
 use mathlib.Core.List.{List}
 use Prim.Native.Nat.{ℕ, zero, suc, _+_, _≤_, _<_}
 use lib.Dec.{ltb, leb, eqb}
-use borrow.Author.Tests.{lt-ltb, le-ltb, eq-eqb, ne-eqb, not-true, not-false}
+use borrow.Author.Tests.{lt-ltb, le-ltb, eq-eqb, ne-eqb}
 use native.Mathlib.Omega.{arith}
 use native.Mathlib.Numerals.{add-one}
 use Rattle.labeling.specs.Points.{Points, Choice}
@@ -14,7 +14,7 @@ use Rattle.format.specs.declared.clash.ClashKind.the-variants.{Labels, L
 use Rattle.format.specs.declared.clash.Clash.{Clash}
 use Rattle.format.specs.declared.clash.Clash.the-variants.{None, Between}
 use Rattle.format.specs.Answers.{outcomeOf}
-use Rattle.format.specs.Sheet.{ask, unlikeEarlier, pointNo, pointsNo}
+use Rattle.format.specs.Sheet.{unlikeEarlier, pointNo, pointsNo}
 use Rattle.format.specs.FirstClash.{isClash, orElse, clashIf, pairClash, firstOf, orderedClash}
 use Rattle.format.specs.ClashPixels.{first-none, none-first}
 

@@ -1,5 +1,5 @@
 -- What the exported calls answer, in the definitions of the calls inside. Assumes nothing.
-use mathlib.Core.Path.{_≡_, refl, sym, ap, _∙_}
+use mathlib.Core.Path.{_≡_, sym, ap, _∙_}
 use mathlib.Core.Bool.{true, false, cond, not}
 use mathlib.Core.List.{List}
 use Prim.Native.Nat.{ℕ}
@@ -7,10 +7,10 @@ use lib.Dec.{eqb}
 use lib.ListN.{length}
 use borrow.Author.Tests.{not-true}
 use Rattle.format.specs.PlateQuestions.{insideStart, plateNo, handedBackAt}
-use Rattle.format.specs.PlateAnswers.{PlateOutcome, plateOutcome, plateOutcomeOf}
+use Rattle.format.specs.PlateAnswers.{plateOutcome, plateOutcomeOf}
 use Rattle.format.specs.declared.plate.PlateAnswer.{PlateAnswer}
 use Rattle.format.specs.declared.plate.PlateAnswer.the-variants.{Accepted as AcceptedPlate, Refused as RefusedPlate}
-use Rattle.plate_maker.specs.Making.{makingNo, MakeOutcome, makeOutcome, makeOutcomeOf, workspaceAfter, BestOutput, Making}
+use Rattle.plate_maker.specs.Making.{makingNo, makeOutcomeOf, workspaceAfter, BestOutput, Making}
 use Rattle.plate_maker.specs.declared.MakeAnswer.{MakeAnswer}
 use Rattle.plate_maker.specs.declared.MakeAnswer.the-variants.{Made, Refused}
 

@@ -1,19 +1,19 @@
 -- DEMAND 2, whole: "A plate repeats its sheet's bytes, splits the points into inside and outside, and puts no pixel under two marks,
 -- margin included. The plate reader accepts just the plates that meet this with the margin columns of document 01, and reads each made
 -- plate back to the same split." Assumes nothing.
-use mathlib.Core.Path.{_≡_, refl, sym, ap, _∙_}
-use mathlib.Core.List.{List, _++_}
+use mathlib.Core.Path.{_≡_, sym, ap, _∙_}
+use mathlib.Core.List.{List}
 use Prim.Native.Nat.{ℕ}
 use lib.ListN.{length, take, drop}
 use lib.Seq.{take-at}
 use Rattle.labeling.specs.Points.{Choice}
 use Rattle.labeling.specs.Marks.{Valid}
-use Rattle.format.specs.Sheet.{pointCount, pointsOf, sheetNo}
+use Rattle.format.specs.Sheet.{pointCount, pointsOf}
 use Rattle.format.specs.Plate.{insideBelow, plateOf}
 use Rattle.format.specs.Accepted.{Accepted, none-sheet}
 use Rattle.format.specs.PlateQuestions.{plateNo, handedBack}
 use Rattle.format.specs.DemandTwoReader.{PlateOfChoice, ReadRight, demand-two-reader}
-use Rattle.plate_maker.specs.Making.{makingNo, bestLength, MakeOutcome, makeOutcome, makeOutcomeOf, BestOutput, Making}
+use Rattle.plate_maker.specs.Making.{makingNo, bestLength, makeOutcomeOf, BestOutput, Making}
 use Rattle.plate_maker.specs.MakingLaws.{none-making}
 use Rattle.plate_maker.specs.BestPlate.{best-length}
 use Rattle.plate_maker.specs.declared.MakeAnswer.the-variants.{Made}

@@ -8,10 +8,9 @@ use native.Mathlib.Omega.{arith}
 use lib.Dec.{eqb, ltb}
 use borrow.Author.Tests.{ne-eqb}
 use lib.ListN.{length, set, length-append}
-use Rattle.labeling.specs.Points.{Points, Choice, Placed, outsideBelow, nextMargin, placedFrom, placed}
+use Rattle.labeling.specs.Points.{Points, Choice, outsideBelow, nextMargin, placedFrom, placed}
 use Rattle.labeling.specs.Tests.{decide}
 use Rattle.labeling.specs.Order.{outside-length}
-use Rattle.labeling.specs.Best.{weightBelow, oneEach}
 use Rattle.format.specs.Plate.{insideBelow, pairs}
 use Rattle.format.specs.PlateLength.{inside-length}
 use Rattle.plate_maker.specs.Written.{written, written-none, written-more}

@@ -3,10 +3,6 @@ use mathlib.Core.Path.{sym, _∙_}
 use Rattle.plate_maker.specs.MakingLaws.{refused-making, made-making}
 use Rattle.plate_maker.proofs.make.Statement.{statement}
 use Rattle.plate_maker.proofs.make.Tie as tie
-use Rattle.plate_maker.proofs.make.Reads as reads
-use Rattle.plate_maker.proofs.make.Lts as lts
-use Rattle.plate_maker.proofs.making.make_best.Reads as make-best-reads
-use Rattle.plate_maker.proofs.making.making_no.Reads as making-no-reads
 
 making-no-requires : tie.Need-making-no-requires
 making-no-requires c κs = search needs

@@ -2,10 +2,6 @@ use borrow.Author.Needs.{needs}
 use Prim.Native.Nat.{_≤_, _<_, _-_}
 use Rattle.print_plate.proofs.columns_used.Statement.{statement}
 use Rattle.print_plate.proofs.columns_used.Tie as tie
-use Rattle.print_plate.proofs.columns_used.Reads as reads
-use Rattle.print_plate.proofs.columns_used.Lts as lts
-use Rattle.print_plate.proofs.columns_to.Reads as columns-to-reads
-use Rattle.print_plate.proofs.margin_at.Reads as margin-at-reads
 
 abbrev Inv-loop : tie.InvT-loop
 Inv-loop plate outside count used₀ k₀ used k = (used < 257) × (k ≤ count)

@@ -1,10 +1,7 @@
 use borrow.Author.Needs.{needs}
-use Prim.Native.Nat.{_≤_, _<_, _-_}
+use Prim.Native.Nat.{_≤_, _-_}
 use Rattle.print_plate.proofs.outside_place.Statement.{statement}
 use Rattle.print_plate.proofs.outside_place.Tie as tie
-use Rattle.print_plate.proofs.outside_place.Reads as reads
-use Rattle.print_plate.proofs.outside_place.Lts as lts
-use Rattle.format.proofs.byte_at.Reads as byte-at-reads
 
 abbrev Inv-loop : tie.InvT-loop
 Inv-loop plate position at count k₀ k = k ≤ count

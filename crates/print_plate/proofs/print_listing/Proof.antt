@@ -1,17 +1,7 @@
 use borrow.Author.Needs.{needs}
-use Prim.Native.Nat.{_≤_, _<_, _-_}
+use Prim.Native.Nat.{_≤_, _-_}
 use Rattle.print_plate.proofs.print_listing.Statement.{statement}
 use Rattle.print_plate.proofs.print_listing.Tie as tie
-use Rattle.print_plate.proofs.print_listing.Reads as reads
-use Rattle.print_plate.proofs.print_listing.Lts as lts
-use Rattle.format.proofs.point_count.Reads as point-count-reads
-use Rattle.io.proofs.write_all.Reads as write-all-reads
-use Rattle.print_plate.proofs.columns_used.Reads as columns-used-reads
-use Rattle.print_plate.proofs.end_line.Reads as end-line-reads
-use Rattle.print_plate.proofs.inside_count.Reads as inside-count-reads
-use Rattle.print_plate.proofs.outside_of.Reads as outside-of-reads
-use Rattle.print_plate.proofs.print_number.Reads as print-number-reads
-use Rattle.print_plate.proofs.print_point.Reads as print-point-reads
 
 abbrev Inv-loop : tie.InvT-loop
 Inv-loop plate n outside position₀ position = position ≤ n

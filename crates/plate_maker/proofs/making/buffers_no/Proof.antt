@@ -8,9 +8,6 @@ use Rattle.format.specs.Asking.{ask-no, ask-yes}
 use Rattle.plate_maker.specs.Making.{buffersNo}
 use Rattle.plate_maker.proofs.making.buffers_no.Statement.{statement}
 use Rattle.plate_maker.proofs.making.buffers_no.Tie as tie
-use Rattle.plate_maker.proofs.making.buffers_no.Reads as reads
-use Rattle.plate_maker.proofs.making.buffers_no.Lts as lts
-use Rattle.format.proofs.point_count.Reads as point-count-reads
 
 -- src/making.rt:10:24
 point-count-requires : tie.Need-point-count-requires

@@ -11,14 +11,6 @@ use Rattle.plate_maker.specs.Sections.{numbered}
 use Rattle.plate_maker.specs.BestPlate.{none-blank, best-made}
 use Rattle.plate_maker.proofs.making.make_best.Statement.{statement}
 use Rattle.plate_maker.proofs.making.make_best.Tie as tie
-use Rattle.plate_maker.proofs.making.make_best.Reads as reads
-use Rattle.plate_maker.proofs.making.make_best.Lts as lts
-use Rattle.plate_maker.proofs.making.none_marked.Reads as none-marked-reads
-use Rattle.plate_maker.proofs.prepare.prepare.Reads as prepare-reads
-use Rattle.plate_maker.proofs.recovery.solve.Reads as solve-reads
-use Rattle.plate_maker.proofs.writing.clear.Reads as clear-reads
-use Rattle.plate_maker.proofs.writing.inside_by_position.Reads as inside-by-position-reads
-use Rattle.plate_maker.proofs.writing.write_plate.Reads as write-plate-reads
 
 -- no question is answered no: the sheet is accepted, and both buffers are large enough
 fine : (c : tie.Start) → Accepted (c .args .sheet .now) × ((12 + 8 * pointCount (c .args .sheet .now) ≤ length (c .args .output .now)) × ((32768 ≤ length (c .args .workspace .now)) × Unit {0}))

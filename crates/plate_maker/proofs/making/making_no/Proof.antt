@@ -4,10 +4,6 @@ use Rattle.format.specs.Asking.{then-later, then-first}
 use Rattle.plate_maker.specs.Making.{makingNo}
 use Rattle.plate_maker.proofs.making.making_no.Statement.{statement}
 use Rattle.plate_maker.proofs.making.making_no.Tie as tie
-use Rattle.plate_maker.proofs.making.making_no.Reads as reads
-use Rattle.plate_maker.proofs.making.making_no.Lts as lts
-use Rattle.format.proofs.check_sheet.Reads as check-sheet-reads
-use Rattle.plate_maker.proofs.making.buffers_no.Reads as buffers-no-reads
 
 -- src/making.rt:23:11
 check-sheet-requires : tie.Need-check-sheet-requires

@@ -1,8 +1,6 @@
 use mathlib.Core.Path.{refl}
 use Rattle.plate_maker.proofs.making.none_marked.Statement.{statement}
 use Rattle.plate_maker.proofs.making.none_marked.Tie as tie
-use Rattle.plate_maker.proofs.making.none_marked.Reads as reads
-use Rattle.plate_maker.proofs.making.none_marked.Lts as lts
 
 returns : tie.Need-returns
 returns c = refl
