@@ -32,7 +32,7 @@ use Rattle.plate_maker.specs.Making.{bestLength, makingNo, makeOutcome, makeOut
 use Rattle.plate_maker.specs.declared.MakeAnswer.{MakeAnswer}
 use Rattle.plate_maker.specs.declared.MakeAnswer.the-variants.{Made, Refused}
 use Rattle.desk.specs.Questions.{loadNo, positions, listCount, listNo, loadedListNo, markNo}
-use Rattle.desk.specs.Desk.{padded, fresh, loadOf, loadOutcome, verdictBy, verdictOf, withLast, markOf, markOutcome}
+use Rattle.desk.specs.Desk.{padded, fresh, loadOf, loadOutcome, verdictBy, verdictOf, firstNo, withLast, markOf, markOutcome}
 use Rattle.desk.specs.DeskLaws.{load-yes, load-no, none-load, mark-yes, mark-no, none-mark}
 use Rattle.desk.specs.Lists.{Listed, none-list, list-count, choice-listed}
 use Rattle.desk.specs.Loaded.{points-same, count-same, sectionRead, section-read, plate-best-length}
@@ -311,12 +311,12 @@ record Tied (calls : Calls) : Type 0 where
   numbers : numberedLists calls ≡ numberFrom 1 (markedLists calls)
 
 -- the desk asks the questions that the words ask
-same-mark-no : (d : Desk) (o : Option (List ℕ)) (k : ℕ) (l : List ℕ) → SheetHeld d o → d .last ≡ k → markNo (d .loaded) (pointCount (d .sheet)) (d .last) l ≡ markNo (isSome o) (pointsIn o) k l
+same-mark-no : (d : Desk) (o : Option (List ℕ)) (k : ℕ) (l : List ℕ) → SheetHeld d o → d .last ≡ k → firstNo d l ≡ markNo (isSome o) (pointsIn o) k l
 unfolding SheetHeld markNo loadedListNo
 same-mark-no d none k l h e = rw h refl
 same-mark-no d (some s) k l h e = rw (h .0, h .1, count-same s, e) refl
 
-tied-mark-no : (calls : Calls) (l : List ℕ) → Tied calls → markNo (deskAfter calls .loaded) (pointCount (deskAfter calls .sheet)) (deskAfter calls .last) l ≡ markNoAfter calls l
+tied-mark-no : (calls : Calls) (l : List ℕ) → Tied calls → firstNo (deskAfter calls) l ≡ markNoAfter calls l
 tied-mark-no calls l t = same-mark-no (deskAfter calls) (lastSheet calls) (lastNumber calls) l (t .sheet) (t .last) ∙ ap (λ b. markNo b (pointsIn (lastSheet calls)) (lastNumber calls) l) (sym (t .loaded))
 
 -- one more numbered list

@@ -74,6 +74,10 @@ verdictBy (Between first second kind) count best = ClashVerdict first second kin
 unfoldable pub verdictOf : Desk → List ℕ → Verdict
 verdictOf d l = verdictBy (firstClash (pointsOf (d .sheet)) (choiceOf (positions l))) (listCount l) (d .best)
 
+-- The first no of a mark of the list l at this desk, 0 if there is none.
+abbrev pub firstNo : Desk → List ℕ → ℕ
+firstNo d l = markNo (d .loaded) (pointCount (d .sheet)) (d .last) l
+
 -- The desk with the last number k.
 abbrev pub withLast : Desk → ℕ → Desk
 withLast d k = record { sheet = d .sheet; loaded = d .loaded; best = d .best; last = k }
@@ -88,7 +92,7 @@ markBy k d l =
 
 -- What a mark of the list l gives.
 unfoldable pub markOf : Desk → List ℕ → MarkResult
-markOf d l = markBy (markNo (d .loaded) (pointCount (d .sheet)) (d .last) l) d l
+markOf d l = markBy (firstNo d l) d l
 
 -- What an answer of mark says: whether it is refused, the number of the first no (0 where nothing is refused), and the list's number and
 -- the verdict on it, if it has them.

@@ -8,12 +8,12 @@ use borrow.Author.Tests.{eq-eqb, ne-eqb}
 use native.Mathlib.Omega.{arith}
 use Rattle.labeling.specs.Tests.{dec-lt}
 use Rattle.labeling.specs.Best.{bestCount}
-use Rattle.format.specs.Sheet.{pointCount, pointsOf}
+use Rattle.format.specs.Sheet.{pointsOf}
 use Rattle.format.specs.Accepted.{Accepted, NoneOf, none-ask, none-left, none-sheet}
 use Rattle.format.specs.Asking.{none-then}
 use Rattle.plate_maker.specs.MakingLaws.{none-workspace}
 use Rattle.desk.specs.Questions.{loadNo, nextNumber, loadedListNo, markNo}
-use Rattle.desk.specs.Desk.{withSheet, loadOf, verdictOf, withLast, markOf}
+use Rattle.desk.specs.Desk.{withSheet, loadOf, verdictOf, firstNo, withLast, markOf}
 use Rattle.desk.specs.Lists.{Listed, none-list}
 use Rattle.desk.specs.declared.Desk.{Desk}
 use Rattle.desk.specs.declared.LoadAnswer.the-variants.{Accepted as AcceptedSheet, Refused}
@@ -36,7 +36,7 @@ none-load s cells = none-then (none-sheet s) (none-workspace cells)
 
 -- MARK
 
-module _ (d : Desk) (l : List ℕ) (k : ℕ) (first : markNo (d .loaded) (pointCount (d .sheet)) (d .last) l ≡ k) where
+module _ (d : Desk) (l : List ℕ) (k : ℕ) (first : firstNo d l ≡ k) where
   pub mark-yes : k ≡ 0 → markOf d l ≡ record { desk = withLast d (nextNumber (d .last)); answer = Marked (nextNumber (d .last)) (verdictOf d l) }
   unfolding markOf
   mark-yes e = rw (first, eq-eqb k 0 e)

@@ -1,19 +1,18 @@
 // The marking desk.
-use format::Clash;
 use format::ClashKind;
-use numbering::next_number;
+use loading::blank_plate;
+use loading::inside_count;
+use loading::no_sheet;
+use loading::with_sheet;
+use marking::answer_to;
+use marking::first_no;
 use plate_maker::MakeAnswer;
-use questions::mark_no;
 ghost use mathlib.Core.Path.{_≡_};
-ghost use Prim.Native.Nat.{_-_, _≤_};
-ghost use lib.ListN.{length};
-ghost use Rattle.format.specs.PlateQuestions.{insideCount};
 ghost use Rattle.plate_maker.specs.Making.{workspaceAfter};
-ghost use Rattle.desk.specs.Desk.{noSheet, padded, fresh, withSheet, loadOf, loadOutcome, verdictOf, markOf};
-ghost use Rattle.desk.specs.Questions.{listCount};
-ghost use Rattle.desk.specs.Lists.{Counted};
-ghost use Rattle.desk.specs.Blank.{blankPlate};
+ghost use Rattle.desk.specs.Desk.{fresh, loadOf, loadOutcome, markOf};
 
+mod loading;
+mod marking;
 mod numbering;
 mod questions;
 
@@ -63,59 +62,6 @@ pub struct MarkResult {
     pub answer: MarkAnswer,
 }
 
-// The bytes of no sheet.
-fn no_sheet() -> [u8; 202]
-    ensures { λ r. ⌜ r ≡ noSheet ⌝ }
-{
-    [0u8; 202]
-}
-
-// The bytes of a sheet, and zeros past its end.
-fn padded_sheet(sheet: &[u8]) -> [u8; 202]
-    requires { ⌜ length (now sheet) ≤ 202 ⌝ }
-    ensures { λ r. ⌜ r ≡ padded (now (sheet .entry)) ⌝ }
-{
-    let mut bytes = no_sheet();
-    let mut k = 0;
-    while k < sheet.len() {
-        bytes[k] = sheet[k];
-        k += 1;
-    }
-    bytes
-}
-
-// A buffer with room for the largest plate, of 12 + 8 · 32 bytes.
-fn blank_plate() -> [u8; 268]
-    ensures { λ r. ⌜ r ≡ blankPlate ⌝ }
-{
-    [0u8; 268]
-}
-
-// The count of a plate's inside list.
-fn inside_count(plate: &[u8]) -> u16
-    ensures { λ r. ⌜ r ≡ insideCount (now (plate .entry)) ⌝ }
-{
-    format::byte_at(plate, 10 + 6 * format::point_count(plate) as usize) as u16
-}
-
-// The count of a list whose count byte is right.
-fn list_count(list: &[u8]) -> u16
-    requires { ⌜ Counted (now list) ⌝ }
-    ensures { λ r. ⌜ r ≡ listCount (now (list .entry)) ⌝ }
-{
-    list[0] as u16
-}
-
-// The best less the count, 0 where the count exceeds it.
-fn shortfall_of(count: u16, best: u16) -> u16
-    ensures { λ r. ⌜ r ≡ best - count ⌝ }
-{
-    if best < count {
-        return 0;
-    }
-    best - count
-}
-
 impl Desk {
     // A fresh desk: no sheet, and last number 0.
     pub fn new() -> Desk
@@ -126,19 +72,6 @@ impl Desk {
             loaded: false,
             best: 0,
             last: 0,
-        }
-    }
-
-    // The desk with another sheet and its best count, and the same last number.
-    fn with_sheet(self, sheet: &[u8], best: u16) -> Desk
-        requires { ⌜ length (now sheet) ≤ 202 ⌝ }
-        ensures { λ r. ⌜ r ≡ withSheet self (now (sheet .entry)) best ⌝ }
-    {
-        Desk {
-            sheet: padded_sheet(sheet),
-            loaded: true,
-            best,
-            last: self.last,
         }
     }
 
@@ -153,35 +86,9 @@ impl Desk {
                 answer: LoadAnswer::Refused(no),
             },
             MakeAnswer::Made(_) => LoadResult {
-                desk: self.with_sheet(sheet, inside_count(&plate)),
+                desk: with_sheet(self, sheet, inside_count(&plate)),
                 answer: LoadAnswer::Accepted,
             },
-        }
-    }
-
-    // The verdict on a list whose count byte is right.
-    fn verdict_on(self, list: &[u8]) -> Verdict
-        requires { ⌜ Counted (now list) ⌝ }
-        ensures { λ r. ⌜ r ≡ verdictOf self (now (list .entry)) ⌝ }
-    {
-        let sheet = self.sheet;
-        match format::first_clash(&sheet, &list[1..]) {
-            Clash::Between {
-                first,
-                second,
-                kind,
-            } => Verdict::Clash {
-                first,
-                second,
-                kind,
-            },
-            Clash::None => {
-                let count = list_count(list);
-                Verdict::Valid {
-                    count,
-                    shortfall: shortfall_of(count, self.best),
-                }
-            }
         }
     }
 
@@ -189,26 +96,7 @@ impl Desk {
     pub fn mark(self, list: &[u8]) -> MarkResult
         ensures { λ r. ⌜ r ≡ markOf self (now (list .entry)) ⌝ }
     {
-        let sheet = self.sheet;
-        let no = mark_no(self.loaded, format::point_count(&sheet), self.last, list);
-        if no != 0 {
-            return MarkResult {
-                desk: self,
-                answer: MarkAnswer::Refused(no),
-            };
-        }
-        let number = next_number(self.last);
-        MarkResult {
-            desk: Desk {
-                sheet,
-                loaded: self.loaded,
-                best: self.best,
-                last: number,
-            },
-            answer: MarkAnswer::Marked {
-                number,
-                verdict: self.verdict_on(list),
-            },
-        }
+        let no = first_no(self, list);
+        answer_to(self, list, no)
     }
 }

@@ -1,8 +1,9 @@
--- `desk::Desk::verdict_on` meets its contract. Assumes nothing.
+-- `desk::marking::verdict_on` meets its contract. Assumes nothing.
+use mathlib.Core.Path.{_∙_}
 use borrow.Author.Needs.{needs}
 use Rattle.desk.proofs.Laws.{verdict-clash, verdict-valid}
-use Rattle.desk.proofs.Desk.verdict_on.Statement.{statement}
-use Rattle.desk.proofs.Desk.verdict_on.Tie as tie
+use Rattle.desk.proofs.marking.verdict_on.Statement.{statement}
+use Rattle.desk.proofs.marking.verdict_on.Tie as tie
 
 slice-aggregate-first-clash : tie.Need-slice-aggregate-first-clash
 slice-aggregate-first-clash c = search needs
@@ -22,6 +23,9 @@ first-clash-requires c κs = search needs
 enum-known-first : tie.Need-enum-known-first
 enum-known-first c = search needs
 
+clash-named-requires : tie.Need-clash-named-requires
+clash-named-requires c κs = search needs
+
 enum-told : tie.Need-enum-told
 enum-told c = search needs
 
@@ -32,7 +36,7 @@ shortfall-of-requires : tie.Need-shortfall-of-requires
 shortfall-of-requires c κs = search needs
 
 returns : tie.Need-returns
-returns c = verdict-clash _ _ _ (c .before .before .before .first-clash .ensures) (c .before .first .given .1)
+returns c = c .clash-named .ensures ∙ verdict-clash _ _ _ (c .before .before .before .before .first-clash .ensures) (c .before .before .first .given .1)
 
 returns-2 : tie.Need-returns-2
 returns-2 c = verdict-valid _ _ _ (c .before .before .before .before .first-clash .ensures) (c .before .before .enum-told .given .1) (c .before .list-count .ensures) (c .shortfall-of .ensures)
@@ -47,6 +51,7 @@ verdict-on-spec =
     part-first-clash-end
     first-clash-requires
     enum-known-first
+    clash-named-requires
     enum-told
     list-count-requires
     shortfall-of-requires

@@ -1,9 +1,9 @@
--- `desk::list_count` meets its contract. Assumes nothing.
+-- `desk::marking::list_count` meets its contract. Assumes nothing.
 use lib.ListN.{length-drop}
 use borrow.Author.Needs.{needs}
 use native.Mathlib.Omega.{arith}
-use Rattle.desk.proofs.list_count.Statement.{statement}
-use Rattle.desk.proofs.list_count.Tie as tie
+use Rattle.desk.proofs.marking.list_count.Statement.{statement}
+use Rattle.desk.proofs.marking.list_count.Tie as tie
 
 shared-slice-read-result : tie.Need-shared-slice-read-result
 shared-slice-read-result c = search needs

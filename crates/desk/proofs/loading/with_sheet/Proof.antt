@@ -1,7 +1,7 @@
--- `desk::Desk::with_sheet` meets its contract. Assumes nothing.
+-- `desk::loading::with_sheet` meets its contract. Assumes nothing.
 use borrow.Author.Needs.{needs}
-use Rattle.desk.proofs.Desk.with_sheet.Statement.{statement}
-use Rattle.desk.proofs.Desk.with_sheet.Tie as tie
+use Rattle.desk.proofs.loading.with_sheet.Statement.{statement}
+use Rattle.desk.proofs.loading.with_sheet.Tie as tie
 
 padded-sheet-requires : tie.Need-padded-sheet-requires
 padded-sheet-requires c κs = search needs

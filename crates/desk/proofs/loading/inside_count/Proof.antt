@@ -1,10 +1,10 @@
--- `desk::inside_count` meets its contract. Assumes nothing.
+-- `desk::loading::inside_count` meets its contract. Assumes nothing.
 use mathlib.Core.Path.{ap, _∙_}
 use Prim.Native.Nat.{_+_, _*_}
 use lib.ListN.{getD}
 use borrow.Author.Needs.{needs}
-use Rattle.desk.proofs.inside_count.Statement.{statement}
-use Rattle.desk.proofs.inside_count.Tie as tie
+use Rattle.desk.proofs.loading.inside_count.Statement.{statement}
+use Rattle.desk.proofs.loading.inside_count.Tie as tie
 
 point-count-requires : tie.Need-point-count-requires
 point-count-requires c κs = search needs

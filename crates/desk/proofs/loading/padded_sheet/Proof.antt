@@ -1,4 +1,4 @@
--- `desk::padded_sheet` meets its contract. Assumes nothing.
+-- `desk::loading::padded_sheet` meets its contract. Assumes nothing.
 use mathlib.Core.Path.{_≡_, ap, _∙_}
 use mathlib.Core.List.{_++_}
 use Prim.Native.Nat.{_-_, _≤_}
@@ -7,8 +7,8 @@ use borrow.Author.Needs.{needs}
 use native.Mathlib.Omega.{arith}
 use Rattle.desk.specs.Desk.{noSheet}
 use Rattle.desk.proofs.Laws.{copy-more, copied, no-sheet-length}
-use Rattle.desk.proofs.padded_sheet.Statement.{statement}
-use Rattle.desk.proofs.padded_sheet.Tie as tie
+use Rattle.desk.proofs.loading.padded_sheet.Statement.{statement}
+use Rattle.desk.proofs.loading.padded_sheet.Tie as tie
 
 abbrev Inv-loop : tie.InvT-loop
 Inv-loop sheet bytes₀ k₀ bytes k = (k ≤ length sheet) × (bytes ≡ take k sheet ++ drop k noSheet)

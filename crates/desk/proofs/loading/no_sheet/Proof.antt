@@ -1,8 +1,8 @@
--- `desk::no_sheet` meets its contract. Assumes nothing.
+-- `desk::loading::no_sheet` meets its contract. Assumes nothing.
 use mathlib.Core.Path.{refl}
 use Rattle.desk.specs.Desk.{noSheet}
-use Rattle.desk.proofs.no_sheet.Statement.{statement}
-use Rattle.desk.proofs.no_sheet.Tie as tie
+use Rattle.desk.proofs.loading.no_sheet.Statement.{statement}
+use Rattle.desk.proofs.loading.no_sheet.Tie as tie
 
 returns : tie.Need-returns
 unfolding noSheet

@@ -1,8 +1,8 @@
--- `desk::blank_plate` meets its contract. Assumes nothing.
+-- `desk::loading::blank_plate` meets its contract. Assumes nothing.
 use mathlib.Core.Path.{refl}
 use Rattle.desk.specs.Blank.{blankPlate}
-use Rattle.desk.proofs.blank_plate.Statement.{statement}
-use Rattle.desk.proofs.blank_plate.Tie as tie
+use Rattle.desk.proofs.loading.blank_plate.Statement.{statement}
+use Rattle.desk.proofs.loading.blank_plate.Tie as tie
 
 returns : tie.Need-returns
 unfolding blankPlate

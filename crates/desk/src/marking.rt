@@ -1,0 +1,100 @@
+// What the desk answers to a mark.
+use crate::Desk;
+use crate::MarkAnswer;
+use crate::MarkResult;
+use crate::Verdict;
+use crate::numbering::next_number;
+use crate::questions::mark_no;
+use format::Clash;
+use format::ClashKind;
+ghost use mathlib.Core.Path.{_≡_};
+ghost use Prim.Native.Nat.{_-_};
+ghost use Rattle.desk.specs.Questions.{listCount};
+ghost use Rattle.desk.specs.Lists.{Counted};
+ghost use Rattle.desk.specs.Desk.{verdictOf, firstNo, markOf};
+
+// The count of a list whose count byte is right.
+fn list_count(list: &[u8]) -> u16
+    requires { ⌜ Counted (now list) ⌝ }
+    ensures { λ r. ⌜ r ≡ listCount (now (list .entry)) ⌝ }
+{
+    list[0] as u16
+}
+
+// The best less the count, 0 where the count exceeds it.
+fn shortfall_of(count: u16, best: u16) -> u16
+    ensures { λ r. ⌜ r ≡ best - count ⌝ }
+{
+    if best < count {
+        return 0;
+    }
+    best - count
+}
+
+// The verdict that names a clash.
+fn clash_named(first: u8, second: u8, kind: ClashKind) -> Verdict
+    ensures { λ r. ⌜ r ≡ Verdict.Clash first second kind ⌝ }
+{
+    Verdict::Clash {
+        first,
+        second,
+        kind,
+    }
+}
+
+// The verdict on a list whose count byte is right.
+fn verdict_on(desk: Desk, list: &[u8]) -> Verdict
+    requires { ⌜ Counted (now list) ⌝ }
+    ensures { λ r. ⌜ r ≡ verdictOf desk (now (list .entry)) ⌝ }
+{
+    let sheet = desk.sheet;
+    match format::first_clash(&sheet, &list[1..]) {
+        Clash::Between {
+            first,
+            second,
+            kind,
+        } => clash_named(first, second, kind),
+        Clash::None => {
+            let count = list_count(list);
+            Verdict::Valid {
+                count,
+                shortfall: shortfall_of(count, desk.best),
+            }
+        }
+    }
+}
+
+// The first no of a mark at this desk, 0 for none.
+pub(crate) fn first_no(desk: Desk, list: &[u8]) -> u8
+    ensures { λ r. ⌜ r ≡ firstNo desk (now (list .entry)) ⌝ }
+{
+    let sheet = desk.sheet;
+    mark_no(desk.loaded, format::point_count(&sheet), desk.last, list)
+}
+
+// The answer to a mark whose first no is `no`, and the desk after it.
+pub(crate) fn answer_to(desk: Desk, list: &[u8], no: u8) -> MarkResult
+    requires { ⌜ no ≡ firstNo desk (now list) ⌝ }
+    ensures { λ r. ⌜ r ≡ markOf desk (now (list .entry)) ⌝ }
+{
+    if no != 0 {
+        return MarkResult {
+            desk,
+            answer: MarkAnswer::Refused(no),
+        };
+    }
+    let sheet = desk.sheet;
+    let number = next_number(desk.last);
+    MarkResult {
+        desk: Desk {
+            sheet,
+            loaded: desk.loaded,
+            best: desk.best,
+            last: number,
+        },
+        answer: MarkAnswer::Marked {
+            number,
+            verdict: verdict_on(desk, list),
+        },
+    }
+}
