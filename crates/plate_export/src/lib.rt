@@ -1,7 +1,15 @@
 // The calls for other languages, over numbers, slices and plain structs.
 ghost use mathlib.Core.Path.{_≡_};
 ghost use Rattle.format.specs.Sheet.{sheetNo};
+ghost use Rattle.plate_maker.specs.Making.{workspaceAfter};
+ghost use Rattle.desk.specs.Desk.{fresh, loadOf, markOf};
 ghost use Rattle.plate_export.specs.Exported.{MakingExported, ReadingExported};
+ghost use Rattle.plate_export.specs.ExportedDesk.{deskOf, stateOf, loadReply, kindNumber, verdictReply, markReply};
+use desk::Desk;
+use desk::LoadAnswer;
+use desk::MarkAnswer;
+use desk::Verdict;
+use format::ClashKind;
 use format::PlateAnswer;
 use format::SheetAnswer;
 use plate_maker::MakeAnswer;
@@ -65,6 +73,154 @@ pub extern "C" fn plate_read(plate: &[u8]) -> ReadResult
             number: number as u32,
             inside_start: 0,
             inside_count: 0,
+        },
+    }
+}
+
+// A desk, field for field that of the crate desk.
+#[repr(C)]
+pub struct DeskState {
+    pub sheet: [u8; 202],
+    pub loaded: bool,
+    pub best: u16,
+    pub last: u16,
+}
+
+// What desk_load answers: the desk after it, and the number of the first no, 0 where the sheet is loaded.
+#[repr(C)]
+pub struct DeskLoadResult {
+    pub desk: DeskState,
+    pub number: u32,
+}
+
+// What desk_mark answers: the desk after it, and the number of the first no, 0 where the list is marked. Then the list's number, and the
+// verdict: 1 for valid, with count and shortfall; 2 for a clash of two labels, 3 for one of a label and a leader, with the two positions.
+// All else is 0.
+#[repr(C)]
+pub struct DeskMarkResult {
+    pub desk: DeskState,
+    pub number: u32,
+    pub list_number: u32,
+    pub verdict: u32,
+    pub count: u32,
+    pub shortfall: u32,
+    pub first: u32,
+    pub second: u32,
+}
+
+fn desk_of(state: DeskState) -> Desk
+    ensures { λ r. ⌜ r ≡ deskOf state ⌝ }
+{
+    let sheet = state.sheet;
+    Desk {
+        sheet,
+        loaded: state.loaded,
+        best: state.best,
+        last: state.last,
+    }
+}
+
+fn state_of(desk: Desk) -> DeskState
+    ensures { λ r. ⌜ r ≡ stateOf desk ⌝ }
+{
+    let sheet = desk.sheet;
+    DeskState {
+        sheet,
+        loaded: desk.loaded,
+        best: desk.best,
+        last: desk.last,
+    }
+}
+
+// The number of a clash's kind.
+fn kind_number(kind: ClashKind) -> u32
+    ensures { λ r. ⌜ r ≡ kindNumber kind ⌝ }
+{
+    match kind {
+        ClashKind::Labels => 2,
+        ClashKind::LabelAndLeader => 3,
+    }
+}
+
+// The answer on a marked list.
+fn verdict_reply(desk: DeskState, list_number: u16, verdict: Verdict) -> DeskMarkResult
+    ensures { λ r. ⌜ r ≡ verdictReply desk «list_number» verdict ⌝ }
+{
+    match verdict {
+        Verdict::Valid { count, shortfall } => DeskMarkResult {
+            desk,
+            number: 0,
+            list_number: list_number as u32,
+            verdict: 1,
+            count: count as u32,
+            shortfall: shortfall as u32,
+            first: 0,
+            second: 0,
+        },
+        Verdict::Clash {
+            first,
+            second,
+            kind,
+        } => DeskMarkResult {
+            desk,
+            number: 0,
+            list_number: list_number as u32,
+            verdict: kind_number(kind),
+            count: 0,
+            shortfall: 0,
+            first: first as u32,
+            second: second as u32,
+        },
+    }
+}
+
+// desk::Desk::new.
+#[no_mangle]
+pub extern "C" fn desk_new() -> DeskState
+    ensures { λ r. ⌜ r ≡ stateOf fresh ⌝ }
+{
+    state_of(Desk::new())
+}
+
+// desk::Desk::load.
+#[no_mangle]
+pub extern "C" fn desk_load(desk: DeskState, sheet: &[u8], workspace: &mut [u16]) -> DeskLoadResult
+    ensures { λ r. ⌜ (r ≡ loadReply (loadOf (deskOf desk) (now (sheet .entry)) (now (workspace .entry)))) × (now (workspace .exit) ≡ workspaceAfter (r .number) (now (workspace .entry))) ⌝ }
+{
+    let loaded = desk_of(desk).load(sheet, workspace);
+    let after = loaded.desk;
+    let answer = loaded.answer;
+    match answer {
+        LoadAnswer::Accepted => DeskLoadResult {
+            desk: state_of(after),
+            number: 0,
+        },
+        LoadAnswer::Refused(number) => DeskLoadResult {
+            desk: state_of(after),
+            number: number as u32,
+        },
+    }
+}
+
+// desk::Desk::mark.
+#[no_mangle]
+pub extern "C" fn desk_mark(desk: DeskState, list: &[u8]) -> DeskMarkResult
+    ensures { λ r. ⌜ r ≡ markReply (markOf (deskOf desk) (now (list .entry))) ⌝ }
+{
+    let marked = desk_of(desk).mark(list);
+    let after = marked.desk;
+    let answer = marked.answer;
+    match answer {
+        MarkAnswer::Marked { number, verdict } => verdict_reply(state_of(after), number, verdict),
+        MarkAnswer::Refused(number) => DeskMarkResult {
+            desk: state_of(after),
+            number: number as u32,
+            list_number: 0,
+            verdict: 0,
+            count: 0,
+            shortfall: 0,
+            first: 0,
+            second: 0,
         },
     }
 }
