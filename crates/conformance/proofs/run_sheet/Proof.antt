@@ -1,0 +1,64 @@
+-- `conformance::run_sheet` meets its contract. Assumes nothing.
+use borrow.Author.Needs.{needs}
+use mathlib.Core.Path.{sym}
+use lib.Seq.{length-take-le}
+use Rattle.conformance.proofs.Laws.{made-within}
+use Rattle.conformance.proofs.run_sheet.Statement.{statement}
+use Rattle.conformance.proofs.run_sheet.Tie as tie
+
+slice-aggregate-make : tie.Need-slice-aggregate-make
+slice-aggregate-make c = search needs
+
+slice-aggregate-make-2 : tie.Need-slice-aggregate-make-2
+slice-aggregate-make-2 c = search needs
+
+make-requires : tie.Need-make-requires
+make-requires c κs = search needs
+
+enum-known-written : tie.Need-enum-known-written
+enum-known-written c = search needs
+
+array-share-prefix-output : tie.Need-array-share-prefix-output
+array-share-prefix-output c = made-within _ _ _ _ _ _ _ (c .before .before .before .before .before .make .ensures) (c .before .written .given .1)
+
+slice-aggregate-print-made : tie.Need-slice-aggregate-print-made
+slice-aggregate-print-made c = sym (length-take-le _ _ (array-share-prefix-output (c .before)))
+
+print-made-requires : tie.Need-print-made-requires
+print-made-requires c κs = search needs
+
+enum-known-number : tie.Need-enum-known-number
+enum-known-number c = search needs
+
+slice-aggregate-print-word : tie.Need-slice-aggregate-print-word
+slice-aggregate-print-word c = search needs
+
+print-word-requires : tie.Need-print-word-requires
+print-word-requires c κs = search needs
+
+print-refusal-requires : tie.Need-print-refusal-requires
+print-refusal-requires c κs = search needs
+
+returns : tie.Need-returns
+returns c = search needs
+
+returns-2 : tie.Need-returns-2
+returns-2 c = search needs
+
+pub run-sheet-spec : {M : Type 1} → statement M
+run-sheet-spec =
+    tie.close
+    (tie.spec
+    slice-aggregate-make
+    slice-aggregate-make-2
+    make-requires
+    enum-known-written
+    array-share-prefix-output
+    slice-aggregate-print-made
+    print-made-requires
+    enum-known-number
+    slice-aggregate-print-word
+    print-word-requires
+    print-refusal-requires
+    returns
+    returns-2)
