@@ -23,12 +23,13 @@ use Rattle.plate_maker.specs.Making.{buffersNo, makingNo, makeOutcome, BestOutp
 use Rattle.plate_maker.specs.declared.MakeAnswer.{MakeAnswer}
 use Rattle.plate_maker.specs.declared.MakeAnswer.the-variants.{Made, Refused as RefusedMaking}
 use Rattle.desk.specs.Questions.{loadNo, listCount, aboveBefore, entryNo, entriesNo}
-use Rattle.desk.specs.Desk.{noSheet, padded, withSheet, loadOf, verdictBy, verdictOf}
+use Rattle.desk.specs.Desk.{noSheet, padded, withSheet, refusedLoad, loadOf, loadOutcome, verdictBy, verdictOf}
 use Rattle.desk.specs.Blank.{blankPlate}
 use Rattle.desk.specs.DeskLaws.{load-yes, load-no, none-load}
 use Rattle.desk.specs.Loaded.{plate-count}
 use Rattle.desk.specs.declared.Desk.{Desk}
-use Rattle.desk.specs.declared.LoadAnswer.the-variants.{Accepted as AcceptedSheet, Refused}
+use Rattle.desk.specs.declared.LoadAnswer.the-variants.{Accepted}
+use Rattle.desk.specs.declared.LoadResult.{LoadResult}
 use Rattle.desk.specs.declared.Verdict.the-variants.{Valid, Clash as ClashVerdict}
 
 -- a fact that does not hold
@@ -122,12 +123,12 @@ module _ (s o w o′ w′ : List ℕ) (answer : MakeAnswer) (blank : o ≡ blank
   unfolding blankPlate
   load-number = (λ i. m .outcome i .number) ∙ ap (λ l. makingNo s (length l) (length w)) blank ∙ making-load s (length w)
 
-  pub refused-load : (d : Desk) (k : ℕ) → answer ≡ RefusedMaking k → (record { desk = d; answer = Refused k } ≡ loadOf d s w) × (w′ ≡ workspaceAfter k w)
-  refused-load d k e =
+  pub load-refused : (d : Desk) (r : LoadResult) (k : ℕ) → answer ≡ RefusedMaking k → r ≡ refusedLoad d k → (r ≡ loadOf d s w) × (w′ ≡ workspaceAfter (loadOutcome (r .answer) .number) w)
+  load-refused d r k e q =
       let n : Making s o w (RefusedMaking k) o′ w′ = rw e at m in
       let z : k ≡ loadNo s (length w) = sym (ap (λ a. makeOutcome a .number) e) ∙ load-number in
       let ne : (loadNo s (length w) ≡ 0 → ⊥) = λ y. true≢false ((λ i. n .outcome i .refused) ∙ ap (λ j. not (eqb j 0)) (sym (λ i. n .outcome i .number) ∙ z ∙ y)) in
-      (ap (λ j. record { desk = d; answer = Refused j }) z ∙ sym (load-no d s w ne), n .workspace)
+      (q ∙ ap (refusedLoad d) z ∙ sym (load-no d s w ne), n .workspace ∙ ap (λ r. workspaceAfter (loadOutcome (r .answer) .number) w) (sym q))
 
   pub made-accepted : (r : ℕ) → answer ≡ Made r → loadNo s (length w) ≡ 0
   made-accepted r e = sym load-number ∙ ap (λ a. makeOutcome a .number) e
@@ -142,7 +143,7 @@ module _ (s o w o′ w′ : List ℕ) (answer : MakeAnswer) (blank : o ≡ blank
       let b : BestOutput s o o′ = n .output in
       ap insideCount (b .plate) ∙ plate-count s (b .choice) a _ ∙ b .best
 
-  pub made-load : (d : Desk) (r best : ℕ) → answer ≡ Made r → best ≡ insideCount o′ → (record { desk = withSheet d s best; answer = AcceptedSheet } ≡ loadOf d s w) × (w′ ≡ replicate (length w) 0)
-  made-load d r best e q =
-      let n : Making s o w (Made r) o′ w′ = rw e at m in
-      (ap (λ b. record { desk = withSheet d s b; answer = AcceptedSheet }) (q ∙ made-count r e) ∙ sym (load-yes d s w (made-accepted r e)), n .workspace)
+  pub load-made : (d e : Desk) (r best : ℕ) → answer ≡ Made r → best ≡ insideCount o′ → e ≡ withSheet d s best → (record { desk = e; answer = Accepted } ≡ loadOf d s w) × (w′ ≡ replicate (length w) 0)
+  load-made d e r best h q c =
+      let n : Making s o w (Made r) o′ w′ = rw h at m in
+      (ap (λ x. record { desk = x; answer = Accepted }) (c ∙ ap (withSheet d s) (q ∙ made-count r h)) ∙ sym (load-yes d s w (made-accepted r h)), n .workspace)

@@ -42,9 +42,13 @@ fresh = record { sheet = noSheet; loaded = false; best = 0; last = 0 }
 abbrev pub withSheet : Desk → List ℕ → ℕ → Desk
 withSheet d s best = record { sheet = padded s; loaded = true; best = best; last = d .last }
 
+-- "The first no ends the call with its number ...; buffers, workspace and desk stay untouched."
+abbrev pub refusedLoad : Desk → ℕ → LoadResult
+refusedLoad d k = record { desk = d; answer = Refused k }
+
 -- The desk and the answer where the first no is k.
 abbrev pub loadBy : ℕ → Desk → List ℕ → LoadResult
-loadBy k d s = cond (eqb k 0) (record { desk = withSheet d s (bestCount (pointsOf s)); answer = Accepted }) (record { desk = d; answer = Refused k })
+loadBy k d s = cond (eqb k 0) (record { desk = withSheet d s (bestCount (pointsOf s)); answer = Accepted }) (refusedLoad d k)
 
 -- What a load of the bytes s with the workspace w gives.
 unfoldable pub loadOf : Desk → List ℕ → List ℕ → LoadResult

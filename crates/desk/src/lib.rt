@@ -3,6 +3,7 @@ use format::ClashKind;
 use loading::blank_plate;
 use loading::inside_count;
 use loading::no_sheet;
+use loading::refused_load;
 use loading::with_sheet;
 use marking::answer_to;
 use marking::first_no;
@@ -81,10 +82,7 @@ impl Desk {
     {
         let mut plate = blank_plate();
         match plate_maker::make(sheet, &mut plate, workspace) {
-            MakeAnswer::Refused(no) => LoadResult {
-                desk: self,
-                answer: LoadAnswer::Refused(no),
-            },
+            MakeAnswer::Refused(no) => refused_load(self, no),
             MakeAnswer::Made(_) => LoadResult {
                 desk: with_sheet(self, sheet, inside_count(&plate)),
                 answer: LoadAnswer::Accepted,

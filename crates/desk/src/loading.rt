@@ -1,10 +1,12 @@
 // What a load puts into the desk.
 use crate::Desk;
+use crate::LoadAnswer;
+use crate::LoadResult;
 ghost use mathlib.Core.Path.{_≡_};
 ghost use Prim.Native.Nat.{_≤_};
 ghost use lib.ListN.{length};
 ghost use Rattle.format.specs.PlateQuestions.{insideCount};
-ghost use Rattle.desk.specs.Desk.{noSheet, padded, withSheet};
+ghost use Rattle.desk.specs.Desk.{noSheet, padded, refusedLoad, withSheet};
 ghost use Rattle.desk.specs.Blank.{blankPlate};
 
 // The bytes of no sheet.
@@ -52,5 +54,15 @@ pub(crate) fn with_sheet(desk: Desk, sheet: &[u8], best: u16) -> Desk
         loaded: true,
         best,
         last: desk.last,
+    }
+}
+
+// A refused load: the desk is as it was.
+pub(crate) fn refused_load(desk: Desk, no: u8) -> LoadResult
+    ensures { λ r. ⌜ r ≡ refusedLoad desk no ⌝ }
+{
+    LoadResult {
+        desk,
+        answer: LoadAnswer::Refused(no),
     }
 }

@@ -1,8 +1,6 @@
 -- `desk::Desk::load` meets its contract. Assumes nothing.
-use mathlib.Core.Path.{ap, _∙_}
 use borrow.Author.Needs.{needs}
-use Rattle.desk.specs.declared.LoadAnswer.the-variants.{Accepted}
-use Rattle.desk.proofs.Laws.{refused-load, made-short, made-load}
+use Rattle.desk.proofs.Laws.{load-refused, made-short, load-made}
 use Rattle.desk.proofs.Desk.load.Statement.{statement}
 use Rattle.desk.proofs.Desk.load.Tie as tie
 
@@ -17,6 +15,9 @@ make-requires c κs = search needs
 
 enum-known-no : tie.Need-enum-known-no
 enum-known-no c = search needs
+
+refused-load-requires : tie.Need-refused-load-requires
+refused-load-requires c κs = search needs
 
 enum-told : tie.Need-enum-told
 enum-told c = search needs
@@ -34,15 +35,13 @@ same-length : tie.Need-same-length
 same-length c = search needs
 
 returns : tie.Need-returns
-returns c = refused-load _ _ _ _ _ _ (c .before .before .before .before .before .before .before .before .before .blank-plate .ensures) (c .before .before .before .before .before .before .make .ensures) _ _ (c .before .no .given .1)
+returns c = load-refused _ _ _ _ _ _ (c .before .before .before .before .before .before .before .before .before .before .blank-plate .ensures) (c .before .before .before .before .before .before .before .make .ensures) _ _ _ (c .before .before .no .given .1) (c .refused-load .ensures)
 
 same-length-2 : tie.Need-same-length-2
 same-length-2 c = search needs
 
 returns-2 : tie.Need-returns-2
-returns-2 c =
-    let m = made-load _ _ _ _ _ _ (c .before .before .before .before .before .before .before .before .before .before .before .blank-plate .ensures) (c .before .before .before .before .before .before .before .before .make .ensures) _ _ _ (c .before .before .before .enum-told .given .1) (c .before .inside-count .ensures) in
-    (ap (λ d. record { desk = d; answer = Accepted }) (c .with-sheet .ensures) ∙ m .0, m .1)
+returns-2 c = load-made _ _ _ _ _ _ (c .before .before .before .before .before .before .before .before .before .before .before .blank-plate .ensures) (c .before .before .before .before .before .before .before .before .make .ensures) _ _ _ _ (c .before .before .before .enum-told .given .1) (c .before .inside-count .ensures) (c .with-sheet .ensures)
 
 pub load-spec : {M : Type 1} → statement M
 load-spec =
@@ -52,6 +51,7 @@ load-spec =
     slice-aggregate-make
     make-requires
     enum-known-no
+    refused-load-requires
     enum-told
     slice-aggregate-inside-count
     inside-count-requires
