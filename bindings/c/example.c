@@ -1,0 +1,77 @@
+/* Document 01's P1 and its desk example. `bindings/run` builds and runs it, and
+   compares what it prints with bindings/expected. */
+#include "plates.h"
+
+#include <stdio.h>
+
+_Static_assert(sizeof(struct desk_state) == 208, "the desk's layout");
+_Static_assert(sizeof(struct desk_load_result) == 212, "the load's layout");
+_Static_assert(sizeof(struct desk_mark_result) == 236, "the mark's layout");
+
+/* Map 20 by 10, label 4 by 2, points 17 at (2,3), 18 at (4,4), 19 at (10,7). */
+static const uint8_t P1[28] = {
+    0x01, 0x14, 0x00, 0x0a, 0x00, 0x04, 0x00, 0x02, 0x00, 0x03,
+    0x11, 0x00, 0x02, 0x00, 0x03, 0x00,
+    0x12, 0x00, 0x04, 0x00, 0x04, 0x00,
+    0x13, 0x00, 0x0a, 0x00, 0x07, 0x00,
+};
+
+static uint16_t workspace[PLATE_WORKSPACE];
+
+static void print_bytes(const char *name, const uint8_t *bytes, size_t count)
+{
+    printf("%s", name);
+    for (size_t i = 0; i < count; i++)
+        printf(" %02x", bytes[i]);
+    printf("\n");
+}
+
+/* Marks a list, prints the answer, and hands the new desk back. */
+static struct desk_state mark(struct desk_state desk, const uint8_t *list, size_t list_len)
+{
+    struct desk_mark_result marked = desk_mark(desk, list, list_len);
+    if (marked.number != 0)
+        printf("refused %u\n", (unsigned)marked.number);
+    else if (marked.verdict == DESK_VALID)
+        printf("%u valid %u %u\n", (unsigned)marked.list_number,
+               (unsigned)marked.count, (unsigned)marked.shortfall);
+    else
+        printf("%u clash %u %u %s\n", (unsigned)marked.list_number,
+               (unsigned)marked.first, (unsigned)marked.second,
+               marked.verdict == DESK_CLASH_LABELS ? "labels" : "leader");
+    return marked.desk;
+}
+
+int main(void)
+{
+    printf("check %u\n", (unsigned)plate_check_sheet(P1, sizeof P1));
+    printf("check %u\n", (unsigned)plate_check_sheet(P1, sizeof P1 - 1));
+
+    uint8_t output[PLATE_OUTPUT];
+    struct plate_make_result made =
+        plate_make(P1, sizeof P1, output, sizeof output, workspace, PLATE_WORKSPACE);
+    if (made.number != 0) {
+        printf("refused %u\n", (unsigned)made.number);
+        return 1;
+    }
+    print_bytes("plate", output, made.written);
+
+    struct plate_read_result read = plate_read(output, made.written);
+    if (read.number != 0) {
+        printf("refused %u\n", (unsigned)read.number);
+        return 1;
+    }
+    print_bytes("inside", output + read.inside_start, read.inside_count);
+
+    static const uint8_t best[] = {2, 1, 2}, first[] = {1, 0}, none[] = {0};
+    struct desk_state desk = desk_new();
+    desk = mark(desk, best, sizeof best);
+    struct desk_load_result loaded =
+        desk_load(desk, P1, sizeof P1, workspace, PLATE_WORKSPACE);
+    printf("load %u\n", (unsigned)loaded.number);
+    desk = loaded.desk;
+    desk = mark(desk, best, sizeof best);
+    desk = mark(desk, first, sizeof first);
+    mark(desk, none, sizeof none);
+    return 0;
+}

@@ -1,0 +1,68 @@
+//! Document 01's P1 and its desk example. `bindings/run` builds and runs it, and
+//! compares what it prints with bindings/expected.
+
+use plates::{check_sheet, make, read_plate, ClashKind, Desk, Verdict, OUTPUT, WORKSPACE};
+
+/// Map 20 by 10, label 4 by 2, points 17 at (2,3), 18 at (4,4), 19 at (10,7).
+const P1: [u8; 28] = [
+    0x01, 0x14, 0x00, 0x0a, 0x00, 0x04, 0x00, 0x02, 0x00, 0x03, // the frame, n
+    0x11, 0x00, 0x02, 0x00, 0x03, 0x00, //
+    0x12, 0x00, 0x04, 0x00, 0x04, 0x00, //
+    0x13, 0x00, 0x0a, 0x00, 0x07, 0x00,
+];
+
+fn main() {
+    println!("check {}", check_sheet(&P1).err().unwrap_or(0));
+    println!("check {}", check_sheet(&P1[..27]).err().unwrap_or(0));
+
+    let mut output = [0; OUTPUT];
+    let mut workspace = vec![0; WORKSPACE];
+    let written = match make(&P1, &mut output, &mut workspace) {
+        Ok(written) => written,
+        Err(number) => return println!("refused {number}"),
+    };
+    let plate = &output[..written];
+    print_bytes("plate", plate);
+    match read_plate(plate) {
+        Ok(inside) => print_bytes("inside", inside),
+        Err(number) => println!("refused {number}"),
+    }
+
+    let desk = mark(Desk::new(), &[2, 1, 2]);
+    let (desk, loaded) = desk.load(&P1, &mut workspace);
+    println!("load {}", loaded.err().unwrap_or(0));
+    let desk = mark(desk, &[2, 1, 2]);
+    let desk = mark(desk, &[1, 0]);
+    mark(desk, &[0]);
+}
+
+fn print_bytes(name: &str, bytes: &[u8]) {
+    let bytes: String = bytes.iter().map(|byte| format!(" {byte:02x}")).collect();
+    println!("{name}{bytes}");
+}
+
+/// Marks a list, prints the answer, and hands the new desk back.
+fn mark(desk: Desk, list: &[u8]) -> Desk {
+    let (desk, answer) = desk.mark(list);
+    match answer.map(|marked| (marked.number, marked.verdict)) {
+        Err(number) => println!("refused {number}"),
+        Ok((number, Verdict::Valid { count, shortfall })) => {
+            println!("{number} valid {count} {shortfall}");
+        }
+        Ok((
+            number,
+            Verdict::Clash {
+                first,
+                second,
+                kind,
+            },
+        )) => {
+            let met = match kind {
+                ClashKind::Labels => "labels",
+                ClashKind::Leader => "leader",
+            };
+            println!("{number} clash {first} {second} {met}");
+        }
+    }
+    desk
+}

@@ -1,0 +1,126 @@
+//! The C interface, as in ../../c/plates.h, each call behind a safe function.
+//! This is the only file with `unsafe` in it.
+//!
+//! Why the calls are safe: each pointer is lent together with the length of the
+//! same Rust slice, so it is aligned, not null, valid for that length during
+//! the call, and writable where the library writes; `&mut` slices overlap no
+//! other. The library keeps no pointer and has no state of its own. The structs
+//! consist of numbers only, so any bits that come back are a value of them.
+
+#![allow(unsafe_code)]
+
+#[repr(C)]
+pub struct MakeResult {
+    pub number: u32,
+    pub written: u64,
+}
+
+#[repr(C)]
+pub struct ReadResult {
+    pub number: u32,
+    pub inside_start: u64,
+    pub inside_count: u64,
+}
+
+#[repr(C)]
+#[derive(Clone, Debug, PartialEq, Eq)]
+pub struct DeskState {
+    sheet: [u8; 202],
+    /// A bool in C. As a number it can be looked at before it is believed.
+    pub loaded: u8,
+    best: u16,
+    last: u16,
+}
+
+#[repr(C)]
+pub struct DeskLoadResult {
+    pub desk: DeskState,
+    pub number: u32,
+}
+
+#[repr(C)]
+pub struct DeskMarkResult {
+    pub desk: DeskState,
+    pub number: u32,
+    pub list_number: u32,
+    pub verdict: u32,
+    pub count: u32,
+    pub shortfall: u32,
+    pub first: u32,
+    pub second: u32,
+}
+
+// The sizes that C gives these structs on x86-64.
+const _: () = assert!(size_of::<MakeResult>() == 16);
+const _: () = assert!(size_of::<ReadResult>() == 24);
+const _: () = assert!(size_of::<DeskState>() == 208);
+const _: () = assert!(size_of::<DeskLoadResult>() == 212);
+const _: () = assert!(size_of::<DeskMarkResult>() == 236);
+
+mod library {
+    use super::{DeskLoadResult, DeskMarkResult, DeskState, MakeResult, ReadResult};
+
+    #[link(name = "plate_export", kind = "static")]
+    extern "C" {
+        pub fn plate_check_sheet(sheet: *const u8, sheet_len: usize) -> u32;
+        pub fn plate_make(
+            sheet: *const u8,
+            sheet_len: usize,
+            output: *mut u8,
+            output_len: usize,
+            workspace: *mut u16,
+            workspace_len: usize,
+        ) -> MakeResult;
+        pub fn plate_read(plate: *const u8, plate_len: usize) -> ReadResult;
+        pub fn desk_new() -> DeskState;
+        pub fn desk_load(
+            desk: DeskState,
+            sheet: *const u8,
+            sheet_len: usize,
+            workspace: *mut u16,
+            workspace_len: usize,
+        ) -> DeskLoadResult;
+        pub fn desk_mark(desk: DeskState, list: *const u8, list_len: usize) -> DeskMarkResult;
+    }
+}
+
+pub fn check_sheet(sheet: &[u8]) -> u32 {
+    unsafe { library::plate_check_sheet(sheet.as_ptr(), sheet.len()) }
+}
+
+pub fn make(sheet: &[u8], output: &mut [u8], workspace: &mut [u16]) -> MakeResult {
+    unsafe {
+        library::plate_make(
+            sheet.as_ptr(),
+            sheet.len(),
+            output.as_mut_ptr(),
+            output.len(),
+            workspace.as_mut_ptr(),
+            workspace.len(),
+        )
+    }
+}
+
+pub fn read(plate: &[u8]) -> ReadResult {
+    unsafe { library::plate_read(plate.as_ptr(), plate.len()) }
+}
+
+pub fn desk_new() -> DeskState {
+    unsafe { library::desk_new() }
+}
+
+pub fn desk_load(desk: DeskState, sheet: &[u8], workspace: &mut [u16]) -> DeskLoadResult {
+    unsafe {
+        library::desk_load(
+            desk,
+            sheet.as_ptr(),
+            sheet.len(),
+            workspace.as_mut_ptr(),
+            workspace.len(),
+        )
+    }
+}
+
+pub fn desk_mark(desk: DeskState, list: &[u8]) -> DeskMarkResult {
+    unsafe { library::desk_mark(desk, list.as_ptr(), list.len()) }
+}

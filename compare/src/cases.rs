@@ -1,0 +1,160 @@
+//! Document 01's worked examples that aren't marked (P): the tie, the desk on P1, and the sheet of
+//! each plausible error. All that is expected is written by hand from the document.
+
+use crate::report::Report;
+use crate::side_by_side::{check, making, must, reading, same, Buffers, Compared, Desks};
+use reference::random::sheet_bytes;
+
+pub struct Case {
+    pub name: &'static str,
+    pub map: (u16, u16),
+    pub label: (u16, u16),
+    /// Columns and rows; the call numbers are 17, 18 and so on.
+    pub points: &'static [(u16, u16)],
+    pub best: usize,
+    /// What comes after the sheet's bytes in a plate, and the number of its reading.
+    pub plates: &'static [(&'static [u8], u8)],
+    /// Lists for a fresh desk with the sheet loaded, in this order, and the answers.
+    pub lists: &'static [(&'static [u8], &'static str)],
+}
+
+/// In the lower wall's case the label of point 0 reaches up over the row of point 1, right of it,
+/// to where the label of point 2 would stand; points 0 and 2 don't touch point 1's leader.
+pub const CASES: [Case; 6] = [
+    Case {
+        name: "the tie (4,3), (3,4)",
+        map: (20, 12),
+        label: (4, 2),
+        points: &[(4, 3), (3, 4)],
+        best: 1,
+        plates: &[
+            (&[1, 0, 1, 1, 0], 0),
+            (&[1, 1, 1, 0, 0], 0),
+            (&[0, 2, 1, 0, 0, 1], 0),
+            (&[2, 0, 1, 0], 44),
+        ],
+        lists: &[
+            (&[1, 0], "1 valid 1 0"),
+            (&[1, 1], "2 valid 1 0"),
+            (&[2, 0, 1], "3 clash 0 1 labels"),
+            (&[0], "4 valid 0 1"),
+        ],
+    },
+    Case {
+        name: "the desk on P1",
+        map: (20, 10),
+        label: (4, 2),
+        points: &[(2, 3), (4, 4), (10, 7)],
+        best: 2,
+        plates: &[(&[2, 1, 2, 1, 0, 0], 0)],
+        lists: &[
+            (&[2, 1, 2], "1 valid 2 0"),
+            (&[1, 0], "2 clash 0 1 leader"),
+            (&[0], "3 valid 0 2"),
+        ],
+    },
+    Case {
+        name: "left to right (P2)",
+        map: (20, 12),
+        label: (4, 3),
+        points: &[(0, 5), (6, 6), (8, 7)],
+        best: 1,
+        plates: &[(&[1, 2, 2, 1, 0, 0, 1], 0), (&[1, 0, 2, 2, 0, 1, 1], 44)],
+        lists: &[(&[1, 0], "1 clash 0 1 leader"), (&[1, 2], "2 valid 1 0")],
+    },
+    Case {
+        name: "only the rectangle placed before (P8)",
+        map: (20, 12),
+        label: (4, 3),
+        points: &[(1, 10), (1, 9), (1, 7)],
+        best: 1,
+        plates: &[
+            (&[0, 3, 0, 0, 1, 1, 2, 2], 0),
+            (&[0, 3, 0, 0, 1, 1, 2, 0], 43),
+        ],
+        lists: &[(&[0], "1 valid 0 1")],
+    },
+    Case {
+        name: "touching labels (P3)",
+        map: (20, 12),
+        label: (4, 2),
+        points: &[(2, 3), (6, 4)],
+        best: 2,
+        plates: &[(&[2, 0, 1, 0], 0)],
+        lists: &[(&[2, 0, 1], "1 valid 2 0")],
+    },
+    Case {
+        name: "the label from under a lower wall",
+        map: (20, 12),
+        label: (4, 3),
+        points: &[(5, 2), (4, 3), (3, 4)],
+        best: 1,
+        plates: &[(&[2, 0, 2, 1, 1, 0], 44), (&[1, 0, 2, 2, 0, 1, 1], 0)],
+        lists: &[
+            (&[2, 0, 2], "1 clash 0 2 labels"),
+            (&[1, 0], "2 valid 1 0"),
+            (&[1, 1], "3 valid 1 0"),
+            (&[1, 2], "4 valid 1 0"),
+        ],
+    },
+];
+
+impl Case {
+    pub fn sheet(&self) -> Vec<u8> {
+        let points: Vec<_> = (17..)
+            .zip(self.points)
+            .map(|(call, &(column, row))| (call, column, row))
+            .collect();
+        sheet_bytes(self.map, self.label, &points)
+    }
+
+    /// The sheet's bytes and then these.
+    pub fn plate(&self, added: &[u8]) -> Vec<u8> {
+        [&self.sheet()[..], added].concat()
+    }
+
+    /// Runs the case; the library, the reference and the document must agree.
+    pub fn run(&self, report: &mut Report) -> Compared {
+        let sheet = self.sheet();
+        let buffers = Buffers::just_enough(self.points.len());
+        check(report, &sheet)?;
+        let plate = making(report, &sheet, buffers)?.ok_or("refused")?;
+        let count = usize::from(plate[sheet.len()]);
+        same("the inside count and the document's", count, self.best)?;
+        for &(added, number) in self.plates {
+            let own = reading(report, &self.plate(added))?;
+            same("the reading and the document's", own, number)?;
+        }
+        let mut desks = Desks::fresh();
+        desks.load(report, &sheet, buffers)?;
+        for &(list, wanted) in self.lists {
+            let line = line(desks.mark(report, list)?);
+            let message = format!("the library says {line}, the document {wanted}");
+            must(line == wanted, &message)?;
+        }
+        Ok(())
+    }
+}
+
+/// An answer as a line.
+fn line(answer: Result<plates::Marked, u8>) -> String {
+    let plates::Marked { number, verdict } = match answer {
+        Ok(marked) => marked,
+        Err(number) => return format!("refused {number}"),
+    };
+    match verdict {
+        plates::Verdict::Valid { count, shortfall } => {
+            format!("{number} valid {count} {shortfall}")
+        }
+        plates::Verdict::Clash {
+            first,
+            second,
+            kind: plates::ClashKind::Labels,
+        } => format!("{number} clash {first} {second} labels"),
+        plates::Verdict::Clash {
+            first,
+            second,
+            kind: plates::ClashKind::Leader,
+        } => format!("{number} clash {first} {second} leader"),
+    }
+}

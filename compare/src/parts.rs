@@ -1,0 +1,284 @@
+//! The parts of the comparison. Each case is made up from its own seed alone.
+
+use crate::damage::{aim_at_sheet, damage_list, damage_plate, damage_sheet, once_in};
+use crate::report::Report;
+use crate::sheets::{crowded_sheet, sheet, sheet_of, small_sheet};
+use crate::side_by_side::{check, making, reading, same, Buffers, Compared, Desks};
+use reference::random::Random;
+use reference::{best_choice, Choice, Sheet, WORKSPACE_NUMBERS};
+
+pub struct Part {
+    pub name: &'static str,
+    /// How many cases a default run has.
+    pub cases: u64,
+    pub run: fn(&mut Random, &mut Report) -> Compared,
+}
+
+pub const PARTS: [Part; 6] = [
+    Part {
+        name: "sheets",
+        cases: 30_000,
+        run: sheets,
+    },
+    Part {
+        name: "damaged-sheets",
+        cases: 40_000,
+        run: damaged_sheets,
+    },
+    Part {
+        name: "plates",
+        cases: 15_000,
+        run: plates,
+    },
+    Part {
+        name: "damaged-plates",
+        cases: 40_000,
+        run: damaged_plates,
+    },
+    Part {
+        name: "desk-scripts",
+        cases: 200,
+        run: desk_script,
+    },
+    Part {
+        name: "desk-to-52",
+        cases: 2,
+        run: desk_to_52,
+    },
+];
+
+/// An accepted sheet: checked and made, and the plate read.
+fn sheets(random: &mut Random, report: &mut Report) -> Compared {
+    let bytes = match random.below(3) {
+        0 => crowded_sheet(random),
+        _ => sheet(random),
+    };
+    note_features(report, &bytes);
+    check(report, &bytes)?;
+    let buffers = any_buffers(random, &bytes);
+    let Some(plate) = making(report, &bytes, buffers)? else {
+        return Ok(());
+    };
+    if buffers.output > 12 + 8 * usize::from(bytes[9]) && buffers.workspace > WORKSPACE_NUMBERS {
+        report.saw("makings with longer buffers");
+    }
+    let number = reading(report, &plate)?;
+    same("the reading of a made plate, and yes", number, 0)?;
+    // The reference's best plate, and nothing inside.
+    let sheet = Sheet::read(&bytes).map_err(|number| format!("no sheet: {number}"))?;
+    for choice in [best_choice(&sheet), Choice(0)] {
+        let number = reading(report, &reference::plate_bytes(&sheet, choice))?;
+        same("the reading of a plate, and yes", number, 0)?;
+    }
+    Ok(())
+}
+
+fn note_features(report: &mut Report, bytes: &[u8]) {
+    let Ok(sheet) = Sheet::read(bytes) else {
+        return;
+    };
+    let mut columns: Vec<u16> = sheet.points().iter().map(|point| point.column).collect();
+    columns.sort_unstable();
+    if columns.windows(2).any(|pair| pair[0] == pair[1]) {
+        report.saw("sheets with equal columns");
+    }
+    match sheet.label_width() {
+        1 => report.saw("sheets with label width 1"),
+        256 => report.saw("sheets with label width 256"),
+        _ => {}
+    }
+    match sheet.label_height() {
+        1 => report.saw("sheets with label height 1"),
+        256 => report.saw("sheets with label height 256"),
+        _ => {}
+    }
+    if bytes[1..3] == [0, 16] || bytes[3..5] == [0, 16] {
+        report.saw("sheets with a map side of 4096");
+    }
+}
+
+/// Buffers for a sheet: mostly enough, just so or longer; at times too short.
+fn any_buffers(random: &mut Random, sheet: &[u8]) -> Buffers {
+    let n = sheet.get(9).copied().unwrap_or(0);
+    let enough = Buffers::just_enough(n.into());
+    let output = match random.below(16) {
+        0 => enough.output - 1,
+        1 => usize::from(random.below(enough.output as u16)),
+        2 => 65_536 + usize::from(random.below(12)),
+        3..=7 => enough.output,
+        _ => enough.output + usize::from(random.below(600)),
+    };
+    let workspace = match random.below(16) {
+        0 => enough.workspace - 1,
+        1 => usize::from(random.below(enough.workspace as u16)),
+        2 => 65_536 + usize::from(random.below(12)),
+        3..=7 => enough.workspace,
+        _ => enough.workspace + usize::from(random.below(2000)),
+    };
+    Buffers {
+        output,
+        workspace,
+        offset: random.below(9).into(),
+    }
+}
+
+/// A damaged sheet: checked, made, loaded.
+fn damaged_sheets(random: &mut Random, report: &mut Report) -> Compared {
+    let mut bytes = match random.below(4) {
+        0 => small_sheet(random),
+        1 => sheet_of(random, 32),
+        _ => sheet(random),
+    };
+    if once_in(random, 20) {
+        // Bytes that were never a sheet.
+        let length = random.below(300);
+        bytes = (0..length).map(|_| random.below(256) as u8).collect();
+        if let Some(first) = bytes.first_mut() {
+            *first = 1;
+        }
+    }
+    damage_sheet(random, &mut bytes);
+    check(report, &bytes)?;
+    let buffers = any_buffers(random, &bytes);
+    making(report, &bytes, buffers)?;
+    Desks::fresh().load(report, &bytes, buffers)
+}
+
+/// A plate in which all but the choice is right.
+pub fn any_plate(random: &mut Random) -> Vec<u8> {
+    let bytes = sheet(random);
+    match Sheet::read(&bytes) {
+        Ok(sheet) => reference::plate_bytes(&sheet, any_choice(random, &sheet)),
+        Err(_) => bytes,
+    }
+}
+
+/// Any choice: best, nearly best, nothing, everything, crowded or thin.
+fn any_choice(random: &mut Random, sheet: &Sheet) -> Choice {
+    let n = sheet.points().len();
+    let all = ((1u64 << n) - 1) as u32;
+    let some = random.next_number() as u32 & all;
+    let one = 1 << random.below(n.max(1) as u16);
+    Choice(match random.below(10) {
+        0 => 0,
+        1 => all,
+        2 => some,
+        3 => some & random.next_number() as u32,
+        4 => one & all,
+        5..=6 => best_choice(sheet).0,
+        7 => best_choice(sheet).0 & !one,
+        8 => (best_choice(sheet).0 | one) & all,
+        _ => best_choice(sheet).0 & random.next_number() as u32,
+    })
+}
+
+/// Plates of any choice: accepted or 44.
+fn plates(random: &mut Random, report: &mut Report) -> Compared {
+    let plate = any_plate(random);
+    let number = reading(report, &plate)?;
+    if let (0, Ok(sheet)) = (number, Sheet::read_start(&plate)) {
+        let inside = usize::from(plate[sheet.bytes().len()]);
+        if inside < reference::best_count(&sheet) {
+            report.saw("accepted plates that are not best");
+        }
+    }
+    Ok(())
+}
+
+fn damaged_plates(random: &mut Random, report: &mut Report) -> Compared {
+    let mut plate = any_plate(random);
+    if once_in(random, 4) {
+        // Aimed, so that each of a sheet's numbers comes up often enough.
+        let number = random.between(11, 20) as u8;
+        aim_at_sheet(random, &mut plate, number);
+        report.saw("damaged sheets in plates");
+    } else {
+        damage_plate(random, &mut plate);
+    }
+    reading(report, &plate).map(|_| ())
+}
+
+/// A list for a sheet (if there is one), damaged at times.
+pub fn any_list(random: &mut Random, sheet: Option<&Sheet>) -> Vec<u8> {
+    let (n, choice) = match sheet {
+        Some(sheet) => (sheet.points().len(), any_choice(random, sheet)),
+        None => (8, Choice(random.next_number() as u32 & 0xff)),
+    };
+    let mut list = vec![choice.0.count_ones() as u8];
+    list.extend((0..n as u8).filter(|&position| choice.contains(position.into())));
+    if once_in(random, 5) {
+        damage_list(random, &mut list, n as u8);
+    }
+    list
+}
+
+/// Two desks and the sheet that is loaded, for making up lists.
+struct Script {
+    desks: Desks,
+    sheet: Option<Sheet>,
+}
+
+impl Script {
+    fn new() -> Script {
+        Script {
+            desks: Desks::fresh(),
+            sheet: None,
+        }
+    }
+
+    fn load(&mut self, report: &mut Report, bytes: &[u8], buffers: Buffers) -> Compared {
+        self.desks.load(report, bytes, buffers)?;
+        match Sheet::read(bytes) {
+            Ok(sheet) if buffers.workspace >= WORKSPACE_NUMBERS => self.sheet = Some(sheet),
+            _ => {}
+        }
+        Ok(())
+    }
+
+    fn mark(&mut self, random: &mut Random, report: &mut Report) -> Compared {
+        let list = any_list(random, self.sheet.as_ref());
+        self.desks.mark(report, &list).map(|_| ())
+    }
+}
+
+/// A script of 100 to 500 loads and marks, refusals among them.
+fn desk_script(random: &mut Random, report: &mut Report) -> Compared {
+    let mut script = Script::new();
+    for _ in 0..random.between(100, 500) {
+        if !once_in(random, 8) {
+            script.mark(random, report)?;
+            continue;
+        }
+        let mut bytes = sheet(random);
+        if once_in(random, 3) {
+            damage_sheet(random, &mut bytes);
+        }
+        let buffers = any_buffers(random, &bytes);
+        script.load(report, &bytes, buffers)?;
+    }
+    Ok(())
+}
+
+/// A script that uses up all 9,999 numbers, and a hundred calls after that.
+fn desk_to_52(random: &mut Random, report: &mut Report) -> Compared {
+    let mut script = Script::new();
+    let mut after = 0;
+    while after < 100 {
+        if script.desks.last_number() == 9999 {
+            after += 1;
+        }
+        if !once_in(random, 20) {
+            script.mark(random, report)?;
+            continue;
+        }
+        let mut bytes = small_sheet(random);
+        if once_in(random, 3) {
+            damage_sheet(random, &mut bytes);
+        }
+        script.load(report, &bytes, Buffers::just_enough(0))?;
+    }
+    // No number is left, but loads go on.
+    let bytes = small_sheet(random);
+    script.load(report, &bytes, Buffers::just_enough(0))?;
+    script.mark(random, report)
+}

@@ -1,0 +1,110 @@
+//! Made-up sheets that keep the rules.
+
+use reference::random::{sheet_bytes, Random};
+
+/// A sheet of 0 to 32 points.
+pub fn sheet(random: &mut Random) -> Vec<u8> {
+    let n = random.between(0, 32);
+    sheet_of(random, n)
+}
+
+/// A sheet of n points: crowded or wide, columns in one of several ways.
+pub fn sheet_of(random: &mut Random, n: u16) -> Vec<u8> {
+    let label = (label_side(random), label_side(random));
+    let map = (map_side(random, label.0, 1), map_side(random, label.1, n));
+    let mut rows = different(random, map.1, n);
+    let columns = columns(random, map.0, label.0, n);
+    let calls = different(random, 9999, n);
+    // The columns go with the rows from low to high; the order on the sheet is another.
+    rows.sort_unstable();
+    let mut points: Vec<_> = (0..usize::from(n))
+        .map(|i| (calls[i] + 1, columns[i], rows[i]))
+        .collect();
+    match random.below(4) {
+        0 => {}
+        1 => points.reverse(),
+        _ => shuffle(random, &mut points),
+    }
+    sheet_bytes(map, label, &points)
+}
+
+/// Points so close that labels and leaders are in each other's way nearly everywhere.
+pub fn crowded_sheet(random: &mut Random) -> Vec<u8> {
+    let n = random.between(2, 32);
+    let label = (random.between(2, 7), random.between(2, 7));
+    let map = (
+        random.between(1, 4) * label.0,
+        random.between(n, n * label.1),
+    );
+    reference::random::random_sheet(random, map, label, n)
+}
+
+/// A small sheet, on which calls are fast.
+pub fn small_sheet(random: &mut Random) -> Vec<u8> {
+    let n = random.between(0, 8);
+    let map = (random.between(8, 24), random.between(8, 24));
+    let label = (random.between(1, 6), random.between(1, 5));
+    reference::random::random_sheet(random, map, label, n)
+}
+
+fn label_side(random: &mut Random) -> u16 {
+    match random.below(10) {
+        0 => 1,
+        1 => 256,
+        2 => random.between(1, 256),
+        3..=5 => random.between(1, 40),
+        _ => random.between(2, 8),
+    }
+}
+
+/// A map side of at least `least`, from about one label up to many.
+fn map_side(random: &mut Random, label: u16, least: u16) -> u16 {
+    let side = match random.below(12) {
+        0 => 4096,
+        1 => least,
+        2 => least + random.below(4),
+        3..=6 => random.between(1, 12) * label.min(300),
+        _ => least + random.below(12 * label.min(300)),
+    };
+    side.clamp(least.max(1), 4096)
+}
+
+/// A column for each of n points, from the lowest row up.
+fn columns(random: &mut Random, width: u16, label: u16, n: u16) -> Vec<u16> {
+    let last = i32::from(width - 1);
+    // Steps and noise of about a label.
+    let step = i32::from(random.between(0, label));
+    let noise = random.between(0, label);
+    let few: Vec<u16> = (0..random.between(1, 4))
+        .map(|_| random.below(width))
+        .collect();
+    let way = random.below(6);
+    (0..i32::from(n))
+        .map(|i| match way {
+            0 => few[0],
+            1 => few[usize::from(random.below(few.len() as u16))],
+            2 => (i * step + i32::from(random.below(noise))).min(last) as u16,
+            3 => (last - i * step - i32::from(random.below(noise))).max(0) as u16,
+            4 => random.below(width.min(3 * label)),
+            _ => random.below(width),
+        })
+        .collect()
+}
+
+/// `count` different numbers below `limit`, in no order.
+fn different(random: &mut Random, limit: u16, count: u16) -> Vec<u16> {
+    let mut all: Vec<u16> = (0..limit).collect();
+    for i in 0..count {
+        let j = random.between(i, limit - 1);
+        all.swap(usize::from(i), usize::from(j));
+    }
+    all.truncate(usize::from(count));
+    all
+}
+
+fn shuffle<T>(random: &mut Random, items: &mut [T]) {
+    for i in (1..items.len()).rev() {
+        let j = random.below(i as u16 + 1);
+        items.swap(i, usize::from(j));
+    }
+}

@@ -1,0 +1,273 @@
+//! One call of the proved library and of the reference, and what must be the same. A difference is
+//! an `Err` with what differs.
+
+use crate::lent::Lent;
+use crate::report::{Call, Report, OTHER_CHOICE};
+use reference::{Choice, Sheet};
+
+pub type Compared = Result<(), String>;
+
+/// What is lent to a making or a load besides the sheet.
+#[derive(Clone, Copy, Debug)]
+pub struct Buffers {
+    /// The output's length; a load has none.
+    pub output: usize,
+    /// The workspace's length.
+    pub workspace: usize,
+    /// By how much the lent parts are shifted in memory.
+    pub offset: usize,
+}
+
+impl Buffers {
+    /// Just what a making of n points asks for.
+    pub fn just_enough(n: usize) -> Buffers {
+        Buffers {
+            output: 12 + 8 * n,
+            workspace: reference::WORKSPACE_NUMBERS,
+            offset: 0,
+        }
+    }
+}
+
+/// Fails with the message unless the condition holds.
+pub fn must(condition: bool, message: &str) -> Compared {
+    match condition {
+        true => Ok(()),
+        false => Err(message.to_string()),
+    }
+}
+
+/// Fails unless the proved library's value is the reference's.
+pub fn same<T: PartialEq + std::fmt::Debug>(what: &str, proved: T, reference: T) -> Compared {
+    match proved == reference {
+        true => Ok(()),
+        false => Err(format!(
+            "{what}: the library has {proved:?}, the reference {reference:?}"
+        )),
+    }
+}
+
+/// 0 for yes, else the number of the refusal.
+fn number_of<T>(answer: &Result<T, u8>) -> u8 {
+    match answer {
+        Ok(_) => 0,
+        Err(number) => *number,
+    }
+}
+
+/// The check of a sheet.
+pub fn check(report: &mut Report, bytes: &[u8]) -> Compared {
+    report.hold("sheet to check", bytes);
+    let lent = Lent::copy_of(bytes, bytes.len() % 3);
+    let number = number_of(&plates::check_sheet(lent.part()));
+    same("check", number, reference::check_sheet(bytes))?;
+    must(lent.untouched(), "the check wrote to its sheet")?;
+    report.answered(Call::Check, number);
+    Ok(())
+}
+
+/// A making. Gives the plate if one was made.
+pub fn making(
+    report: &mut Report,
+    bytes: &[u8],
+    buffers: Buffers,
+) -> Result<Option<Vec<u8>>, String> {
+    report.hold("sheet to make", bytes);
+    let lent = Lent::copy_of(bytes, buffers.offset);
+    let mut output = Lent::output(buffers.output, buffers.offset);
+    let mut workspace = Lent::workspace(buffers.workspace, buffers.offset);
+    let answer = plates::make(lent.part(), output.lend(), workspace.lend());
+    let number = number_of(&answer);
+    let wanted = reference::making_no(bytes, buffers.output, buffers.workspace);
+    same(&format!("making with {buffers:?}"), number, wanted)?;
+    must(lent.untouched(), "the making wrote to its sheet")?;
+    report.answered(Call::Make, number);
+    let Ok(written) = answer else {
+        must(output.untouched(), "a refused making wrote to the output")?;
+        let untouched = workspace.untouched();
+        must(untouched, "a refused making wrote to the workspace")?;
+        return Ok(None);
+    };
+    let untouched = output.untouched_after(written);
+    must(untouched, "bytes beside the plate were touched")?;
+    must(workspace.zeroed(), "the workspace is not just zero")?;
+    let plate = output.part()[..written].to_vec();
+    report.hold("plate made", &plate);
+    made_plate(report, bytes, &plate)?;
+    Ok(Some(plate))
+}
+
+/// The plate is the one of a valid choice, and the choice has the best count.
+fn made_plate(report: &mut Report, bytes: &[u8], plate: &[u8]) -> Compared {
+    let sheet = Sheet::read(bytes).map_err(|number| format!("no sheet: {number}"))?;
+    let n = sheet.points().len();
+    let choice = choice_of_plate(plate).ok_or("the plate has no inside list")?;
+    let wanted = reference::plate_bytes(&sheet, choice);
+    same("the plate of its own choice", plate, &wanted[..])?;
+    let valid = reference::valid(&sheet, choice);
+    must(valid, "the plate's choice isn't valid")?;
+    let best = reference::best_choice(&sheet);
+    let valid = reference::valid(&sheet, best);
+    must(valid, "the reference's choice isn't valid")?;
+    let (count, best_count) = (choice.0.count_ones(), best.0.count_ones());
+    same("the inside count", count, best_count)?;
+    report.made(n);
+    report.saw(match usize::try_from(count) == Ok(n) {
+        true => "best plates with every point inside",
+        false => "best plates with points outside",
+    });
+    if choice != best {
+        report.saw(OTHER_CHOICE);
+    }
+    Ok(())
+}
+
+/// The choice that a plate's inside section names.
+fn choice_of_plate(plate: &[u8]) -> Option<Choice> {
+    let start = 10 + 6 * usize::from(*plate.get(9)?) + 1;
+    let count = usize::from(*plate.get(start - 1)?);
+    plate.get(start..start + count).map(Choice::of)
+}
+
+/// The reading of a plate: the same answer, and the same part of the plate.
+pub fn reading(report: &mut Report, plate: &[u8]) -> Result<u8, String> {
+    report.hold("plate to read", plate);
+    let lent = Lent::copy_of(plate, plate.len() % 3);
+    let part = lent.part();
+    let proved = plates::read_plate(part);
+    let reference = reference::read_plate(part);
+    let number = number_of(&proved);
+    same("reading", number, reference.number)?;
+    if let Ok(inside) = proved {
+        same("the inside list", inside, reference.inside)?;
+        let place = |inside: &[u8]| inside.as_ptr() as usize - part.as_ptr() as usize;
+        let (own, wanted) = (place(inside), place(reference.inside));
+        same("the inside list's place", own, wanted)?;
+    }
+    must(lent.untouched(), "the reading wrote to its plate")?;
+    report.answered(Call::Read, number);
+    Ok(number)
+}
+
+/// A desk of the library and one of the reference, which get the same calls.
+pub struct Desks {
+    proved: plates::Desk,
+    reference: reference::Desk,
+}
+
+impl Desks {
+    pub fn fresh() -> Desks {
+        Desks {
+            proved: plates::Desk::new(),
+            reference: reference::Desk::fresh(),
+        }
+    }
+
+    pub fn last_number(&self) -> u16 {
+        self.reference.last_number()
+    }
+
+    pub fn load(&mut self, report: &mut Report, bytes: &[u8], buffers: Buffers) -> Compared {
+        report.hold("load", bytes);
+        let lent = Lent::copy_of(bytes, buffers.offset);
+        let mut workspace = Lent::workspace(buffers.workspace, buffers.offset);
+        let was_loaded = self.reference.loaded().is_some();
+        let before = self.proved.clone();
+        let (desk, answer) = before.clone().load(lent.part(), workspace.lend());
+        let number = number_of(&answer);
+        let wanted = self.reference.load(bytes, buffers.workspace);
+        same(&format!("load with {buffers:?}"), number, wanted)?;
+        must(lent.untouched(), "the load wrote to its sheet")?;
+        report.answered(Call::Load, number);
+        self.proved = desk;
+        if number != 0 {
+            must(self.proved == before, "a refused load changed the desk")?;
+            let untouched = workspace.untouched();
+            return must(untouched, "a refused load wrote to the workspace");
+        }
+        must(workspace.zeroed(), "the workspace is not just zero")?;
+        if was_loaded {
+            report.saw("loads onto a loaded desk");
+        }
+        if self.last_number() == 9999 {
+            report.saw("loads after number 9999");
+        }
+        self.shows_best()
+    }
+
+    /// The best count and the last number, as copies of the desks show them: the empty list is
+    /// valid, its number is the next one and its shortfall the best count.
+    fn shows_best(&self) -> Compared {
+        let (_, proved) = self.proved.clone().mark(&[0]);
+        let reference = self.reference.clone().mark(&[0]);
+        same(
+            "the empty list after a load",
+            proved,
+            reference.map(as_proved),
+        )
+    }
+
+    /// A mark; gives the answer of both.
+    pub fn mark(
+        &mut self,
+        report: &mut Report,
+        list: &[u8],
+    ) -> Result<Result<plates::Marked, u8>, String> {
+        report.hold("mark", list);
+        let lent = Lent::copy_of(list, list.len() % 3);
+        let before = self.proved.clone();
+        let (desk, answer) = before.clone().mark(lent.part());
+        let wanted = self.reference.mark(list).map(as_proved);
+        same("mark", answer, wanted)?;
+        must(lent.untouched(), "the mark wrote to its list")?;
+        report.answered(Call::Mark, number_of(&answer));
+        self.proved = desk;
+        match answer {
+            Err(_) => must(self.proved == before, "a refused mark changed the desk")?,
+            Ok(marked) => report.saw(feature(marked.verdict)),
+        }
+        Ok(answer)
+    }
+}
+
+/// The reference's answer in the wrapper's types.
+fn as_proved(marked: reference::Marked) -> plates::Marked {
+    // Counts and positions are at most 32.
+    let verdict = match marked.verdict {
+        reference::Verdict::Valid { count, shortfall } => plates::Verdict::Valid {
+            count: count as u8,
+            shortfall: shortfall as u8,
+        },
+        reference::Verdict::Clash {
+            first,
+            second,
+            kind,
+        } => plates::Verdict::Clash {
+            first: first as u8,
+            second: second as u8,
+            kind: match kind {
+                reference::ClashKind::Labels => plates::ClashKind::Labels,
+                reference::ClashKind::Leader => plates::ClashKind::Leader,
+            },
+        },
+    };
+    plates::Marked {
+        number: marked.number,
+        verdict,
+    }
+}
+
+fn feature(verdict: plates::Verdict) -> &'static str {
+    match verdict {
+        plates::Verdict::Valid { shortfall: 0, .. } => "lists valid, shortfall 0",
+        plates::Verdict::Valid { .. } => "lists valid, shortfall above 0",
+        plates::Verdict::Clash {
+            kind: plates::ClashKind::Labels,
+            ..
+        } => "lists with a clash of labels",
+        plates::Verdict::Clash {
+            kind: plates::ClashKind::Leader,
+            ..
+        } => "lists with a clash with a leader",
+    }
+}

@@ -1,0 +1,63 @@
+//! Timings of the best count on random sheets. Run it with
+//! `cargo run --release --example timing`.
+
+use std::time::{Duration, Instant};
+
+use reference::random::{falling_sheet, random_sheet, Random};
+use reference::{best_count, Sheet};
+
+/// Times the best count of some sheets and prints one line.
+fn measure(name: &str, rounds: u32, mut next_sheet: impl FnMut() -> Vec<u8>) {
+    let mut inside = 0;
+    let mut total = Duration::ZERO;
+    let mut worst = Duration::ZERO;
+    for _ in 0..rounds {
+        let Ok(sheet) = Sheet::read(&next_sheet()) else {
+            println!("{name}: a sheet was refused");
+            return;
+        };
+        let before = Instant::now();
+        inside += best_count(&sheet);
+        let time = before.elapsed();
+        total += time;
+        worst = worst.max(time);
+    }
+    println!(
+        "{name:32} {rounds:6} {:8.2} {:>10} {:>10}",
+        inside as f64 / f64::from(rounds),
+        format!("{:.1?}", total / rounds),
+        format!("{worst:.1?}"),
+    );
+}
+
+fn main() {
+    let sides = [32, 64, 128, 256, 512, 1024, 4096];
+    let labels = [
+        (1, 1),
+        (2, 2),
+        (4, 3),
+        (8, 4),
+        (16, 8),
+        (3, 24),
+        (24, 3),
+        (40, 40),
+        (100, 60),
+        (256, 256),
+    ];
+    println!("sheets of 32 points            sheets mean best  mean time worst time");
+    let start = Instant::now();
+    let mut random = Random::new(2024);
+    let rounds = 200;
+    for side in sides {
+        for (w, h) in labels {
+            measure(&format!("map {side}, label {w} by {h}"), rounds, || {
+                random_sheet(&mut random, (side, side), (w, h), 32)
+            });
+            let noise = w * 2;
+            measure("  the same, columns falling", rounds, || {
+                falling_sheet(&mut random, (side, side), (w, h), 32, noise)
+            });
+        }
+    }
+    println!("all in {:.1?}", start.elapsed());
+}

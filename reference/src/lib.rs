@@ -1,0 +1,28 @@
+//! A reference for call-sign plates, written from document 01 alone.
+//!
+//! Whether a choice is valid is decided by marking pixels: every point's pixels are written down
+//! as runs along rows, and two points clash if their runs share a pixel. No function here panics,
+//! whatever bytes it is given.
+
+#![forbid(unsafe_code)]
+#![warn(missing_docs)]
+
+pub mod desk;
+pub mod margin;
+pub mod pixels;
+pub mod plate;
+pub mod random;
+pub mod script;
+pub mod search;
+pub mod sheet;
+
+pub use desk::{Desk, Marked, Verdict};
+pub use margin::{inside_positions, margin_columns, margin_width, outside_positions};
+pub use pixels::{first_clash, valid, ClashKind};
+pub use plate::{listing, making_no, plate_bytes, read_plate, PlateReading};
+pub use script::run_script;
+pub use search::{best_choice, best_count};
+pub use sheet::{check_sheet, Choice, Point, Sheet};
+
+/// How many 16-bit numbers of workspace a making or a load asks for.
+pub const WORKSPACE_NUMBERS: usize = 32_768;

@@ -1,0 +1,127 @@
+//! Plates: making their bytes, reading them, the questions of a making, and the printed listing.
+
+use crate::margin::{inside_positions, margin_columns, margin_width, outside_positions};
+use crate::pixels::valid;
+use crate::sheet::{Choice, Sheet};
+use crate::WORKSPACE_NUMBERS;
+
+/// What reading a plate gives.
+#[derive(Clone, Copy, Debug, PartialEq, Eq)]
+pub struct PlateReading<'a> {
+    /// 0 if the plate is accepted, else the number of the first no.
+    pub number: u8,
+    /// The stretch of the plate with the inside positions, without their count byte. It is the
+    /// plate's empty start if the plate is refused.
+    pub inside: &'a [u8],
+}
+
+/// The plate of a choice.
+pub fn plate_bytes(sheet: &Sheet, choice: Choice) -> Vec<u8> {
+    let inside = inside_positions(sheet, choice);
+    let outside = outside_positions(sheet, choice);
+    let columns = margin_columns(sheet, choice);
+    // Positions and counts are at most 32, so each fits in a byte.
+    let mut bytes = sheet.bytes().to_vec();
+    bytes.push(inside.len() as u8);
+    bytes.extend(inside.iter().map(|&position| position as u8));
+    bytes.push(outside.len() as u8);
+    for position in outside {
+        bytes.push(position as u8);
+        bytes.push(columns[position].unwrap_or(0));
+    }
+    bytes
+}
+
+/// Reads a plate: the sheet's questions, then 41 to 44.
+pub fn read_plate(plate: &[u8]) -> PlateReading<'_> {
+    match read(plate) {
+        Ok(inside) => PlateReading { number: 0, inside },
+        Err(number) => PlateReading {
+            number,
+            inside: &plate[..0],
+        },
+    }
+}
+
+fn read(plate: &[u8]) -> Result<&[u8], u8> {
+    let sheet = Sheet::read_start(plate)?;
+    let n = sheet.points().len();
+    let sections = &plate[sheet.bytes().len()..];
+    let (inside, pairs) = split_sections(sections).ok_or(41)?;
+    if inside.len() + pairs.len() / 2 != n {
+        return Err(41);
+    }
+    let mut previous = None;
+    for &position in inside {
+        if usize::from(position) >= n || previous.is_some_and(|previous| position <= previous) {
+            return Err(42);
+        }
+        previous = Some(position);
+    }
+    let choice = Choice::of(inside);
+    // The other points in their order and with their columns, as the margin rule has them.
+    let columns = margin_columns(&sheet, choice);
+    let mut expected = Vec::new();
+    for position in outside_positions(&sheet, choice) {
+        expected.push(position as u8);
+        expected.push(columns[position].unwrap_or(0));
+    }
+    if pairs != expected {
+        return Err(43);
+    }
+    if !valid(&sheet, choice) {
+        return Err(44);
+    }
+    Ok(inside)
+}
+
+/// Splits what follows the sheet into the inside positions and the outside pairs, if both sections
+/// have all their bytes and end where the plate ends.
+fn split_sections(sections: &[u8]) -> Option<(&[u8], &[u8])> {
+    let (&inside_count, rest) = sections.split_first()?;
+    let inside = rest.get(..usize::from(inside_count))?;
+    let rest = rest.get(usize::from(inside_count)..)?;
+    let (&outside_count, pairs) = rest.split_first()?;
+    if pairs.len() != 2 * usize::from(outside_count) {
+        return None;
+    }
+    Some((inside, pairs))
+}
+
+/// The questions of a making: 0 if a plate is made, else the number of the first no.
+pub fn making_no(sheet: &[u8], output_len: usize, workspace_len: usize) -> u8 {
+    let sheet = match Sheet::read(sheet) {
+        Ok(sheet) => sheet,
+        Err(number) => return number,
+    };
+    if output_len < 12 + 8 * sheet.points().len() {
+        return 21;
+    }
+    if workspace_len < WORKSPACE_NUMBERS {
+        return 22;
+    }
+    0
+}
+
+/// What the printing program writes for these sheet bytes if it makes the plate of this choice.
+/// Every line ends with a newline.
+pub fn listing(sheet: &[u8], choice: Choice) -> String {
+    let sheet = match Sheet::read(sheet) {
+        Ok(sheet) => sheet,
+        Err(number) => return format!("refused {number}\n"),
+    };
+    let mut text = format!(
+        "plate {} {} {}\n",
+        sheet.points().len(),
+        inside_positions(&sheet, choice).len(),
+        margin_width(&sheet, choice)
+    );
+    let columns = margin_columns(&sheet, choice);
+    for (point, column) in sheet.points().iter().zip(columns) {
+        match column {
+            None => text.push_str(&format!("{} in\n", point.call)),
+            Some(column) => text.push_str(&format!("{} out {column}\n", point.call)),
+        }
+    }
+    text
+}

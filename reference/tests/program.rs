@@ -1,0 +1,83 @@
+//! The program, run as a program.
+
+use std::io::Write;
+use std::process::{Command, Stdio};
+
+use reference::random::sheet_bytes;
+
+/// What the program writes for a command and these bytes on standard input.
+fn run(command: &str, input: &[u8]) -> String {
+    let mut child = Command::new(env!("CARGO_BIN_EXE_reference"))
+        .arg(command)
+        .stdin(Stdio::piped())
+        .stdout(Stdio::piped())
+        .spawn()
+        .unwrap();
+    child.stdin.take().unwrap().write_all(input).unwrap();
+    let output = child.wait_with_output().unwrap();
+    assert!(output.status.success());
+    String::from_utf8(output.stdout).unwrap()
+}
+
+fn p1() -> Vec<u8> {
+    sheet_bytes((20, 10), (4, 2), &[(17, 2, 3), (18, 4, 4), (19, 10, 7)])
+}
+
+/// A call of a script.
+fn call(kind: u8, part: &[u8]) -> Vec<u8> {
+    let mut bytes = vec![kind];
+    bytes.extend((part.len() as u16).to_le_bytes());
+    bytes.extend(part);
+    bytes
+}
+
+#[test]
+fn check_best_and_list() {
+    assert_eq!(run("check", &p1()), "accepted\n");
+    assert_eq!(run("check", &p1()[..27]), "refused 16\n");
+    assert_eq!(run("best", &p1()), "2\n");
+    assert_eq!(run("list-best-count", &p1()), "2\n");
+    assert_eq!(run("best", &[]), "refused 11\n");
+    assert_eq!(run("list", &p1()), "plate 3 2 1\n17 out 0\n18 in\n19 in\n");
+    assert_eq!(run("list", &p1()[..27]), "refused 16\n");
+}
+
+#[test]
+fn read() {
+    let plate = [&p1()[..], &[2, 1, 2, 1, 0, 0]].concat();
+    assert_eq!(run("read", &plate), "accepted 2 1 2\n");
+    let plate = [&p1()[..], &[0, 3, 2, 0, 1, 0, 0, 1]].concat();
+    assert_eq!(run("read", &plate), "accepted 0\n");
+    assert_eq!(run("read", &p1()), "refused 41\n");
+}
+
+#[test]
+fn desk() {
+    assert_eq!(run("desk", &[]), "");
+    let script = [
+        call(2, &[0]),
+        call(1, &p1()[..27]),
+        call(1, &p1()),
+        call(2, &[2, 1, 2]),
+        call(2, &[1, 0]),
+        call(2, &[0]),
+        call(2, &[]),
+        call(2, &[2, 0, 1]),
+    ]
+    .concat();
+    let lines = "refused 51\nrefused 16\nloaded 3 2\n1 valid 2 0\n2 clash 0 1 leader\n\
+                 3 valid 0 2\nrefused 31\n4 clash 0 1 labels\n";
+    assert_eq!(run("desk", &script), lines);
+    let bad = format!("{lines}bad call\n");
+    // Another kind byte, and calls cut short at each place.
+    for rest in [
+        &[0, 0, 0][..],
+        &[3, 0, 0],
+        &[1],
+        &[1, 0],
+        &[2, 1, 0],
+        &[2, 0, 1, 0],
+    ] {
+        assert_eq!(run("desk", &[&script[..], rest].concat()), bad);
+    }
+}

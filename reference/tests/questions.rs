@@ -1,0 +1,349 @@
+//! Every question's number, at its edges and in its order.
+
+use reference::random::sheet_bytes;
+use reference::{
+    check_sheet, making_no, plate_bytes, read_plate, Choice, Desk, Sheet, Verdict,
+    WORKSPACE_NUMBERS,
+};
+
+/// P1's sheet.
+fn p1() -> Vec<u8> {
+    sheet_bytes((20, 10), (4, 2), &[(17, 2, 3), (18, 4, 4), (19, 10, 7)])
+}
+
+/// P1 with one byte changed.
+fn p1_with(place: usize, byte: u8) -> Vec<u8> {
+    let mut bytes = p1();
+    bytes[place] = byte;
+    bytes
+}
+
+fn check(map: (u16, u16), label: (u16, u16), points: &[(u16, u16, u16)]) -> u8 {
+    check_sheet(&sheet_bytes(map, label, points))
+}
+
+#[test]
+fn accepted_edges() {
+    assert_eq!(check_sheet(&p1()), 0);
+    assert_eq!(check((1, 1), (1, 1), &[]), 0);
+    assert_eq!(check((4096, 4096), (256, 256), &[(9999, 4095, 4095)]), 0);
+    assert_eq!(check((1, 1), (256, 256), &[(1, 0, 0)]), 0);
+}
+
+#[test]
+fn question_11_ten_bytes() {
+    for length in 0..10 {
+        assert_eq!(check_sheet(&p1()[..length]), 11);
+    }
+    // Asked before the first byte.
+    assert_eq!(check_sheet(&[0; 9]), 11);
+    assert_eq!(check_sheet(&p1()[..10]), 16);
+}
+
+#[test]
+fn question_12_first_byte() {
+    for byte in [0, 2, 255] {
+        assert_eq!(check_sheet(&p1_with(0, byte)), 12);
+    }
+    // Asked before the sides.
+    assert_eq!(check_sheet(&[0; 10]), 12);
+}
+
+#[test]
+fn question_13_map_sides() {
+    assert_eq!(check((0, 10), (4, 2), &[]), 13);
+    assert_eq!(check((10, 0), (4, 2), &[]), 13);
+    assert_eq!(check((4097, 10), (4, 2), &[]), 13);
+    assert_eq!(check((10, 4097), (4, 2), &[]), 13);
+    assert_eq!(check((10, 65535), (0, 0), &[]), 13);
+}
+
+#[test]
+fn question_14_label_sides() {
+    assert_eq!(check((10, 10), (0, 2), &[]), 14);
+    assert_eq!(check((10, 10), (4, 0), &[]), 14);
+    assert_eq!(check((10, 10), (257, 2), &[]), 14);
+    assert_eq!(check((10, 10), (4, 257), &[]), 14);
+    let mut bytes = sheet_bytes((10, 10), (4, 0), &[]);
+    bytes[9] = 33;
+    assert_eq!(check_sheet(&bytes), 14);
+}
+
+#[test]
+fn question_15_point_count() {
+    assert_eq!(check_sheet(&p1_with(9, 33)), 15);
+    assert_eq!(check_sheet(&p1_with(9, 255)), 15);
+    assert_eq!(check_sheet(&p1_with(9, 32)), 16);
+    let points: Vec<_> = (0..33).map(|i| (i + 1, i, i)).collect();
+    assert_eq!(check((40, 40), (4, 2), &points), 15);
+    assert_eq!(check((40, 40), (4, 2), &points[..32]), 0);
+}
+
+#[test]
+fn question_16_length() {
+    let mut bytes = p1();
+    assert_eq!(check_sheet(&bytes[..27]), 16);
+    bytes.push(0);
+    assert_eq!(check_sheet(&bytes), 16);
+    // Asked before the points.
+    let mut bytes = p1_with(10, 0);
+    bytes.push(0);
+    assert_eq!(check_sheet(&bytes), 16);
+}
+
+#[test]
+fn question_17_call_number() {
+    let map = (20, 10);
+    assert_eq!(check(map, (4, 2), &[(0, 2, 3)]), 17);
+    assert_eq!(check(map, (4, 2), &[(10000, 2, 3)]), 17);
+    // Asked before the same point's place.
+    assert_eq!(check(map, (4, 2), &[(0, 20, 3)]), 17);
+}
+
+#[test]
+fn question_18_on_the_map() {
+    let map = (20, 10);
+    assert_eq!(check(map, (4, 2), &[(1, 20, 3)]), 18);
+    assert_eq!(check(map, (4, 2), &[(1, 2, 10)]), 18);
+    assert_eq!(check(map, (4, 2), &[(1, 19, 9)]), 0);
+    // Asked before the same point's call number is compared.
+    assert_eq!(check(map, (4, 2), &[(1, 2, 3), (1, 20, 4)]), 18);
+}
+
+#[test]
+fn question_19_call_numbers_differ() {
+    let map = (20, 10);
+    assert_eq!(check(map, (4, 2), &[(1, 2, 3), (2, 2, 4), (1, 2, 5)]), 19);
+    // Asked before the same point's row is compared.
+    assert_eq!(check(map, (4, 2), &[(1, 2, 3), (1, 2, 3)]), 19);
+}
+
+#[test]
+fn question_20_rows_differ() {
+    let map = (20, 10);
+    assert_eq!(check(map, (4, 2), &[(1, 2, 3), (2, 5, 4), (3, 6, 3)]), 20);
+    assert_eq!(check(map, (4, 2), &[(1, 2, 3), (2, 2, 4)]), 0);
+}
+
+#[test]
+fn points_are_asked_one_by_one() {
+    let map = (20, 10);
+    // The second point's 20 comes before the third point's 17.
+    assert_eq!(check(map, (4, 2), &[(1, 2, 3), (2, 5, 3), (0, 6, 4)]), 20);
+    assert_eq!(check(map, (4, 2), &[(1, 2, 10), (0, 5, 3)]), 18);
+    assert_eq!(check(map, (4, 2), &[(1, 2, 3), (1, 5, 4), (2, 30, 3)]), 19);
+}
+
+#[test]
+fn questions_21_and_22_of_a_making() {
+    let sheet = p1();
+    let output = 12 + 8 * 3;
+    assert_eq!(making_no(&sheet, output, WORKSPACE_NUMBERS), 0);
+    assert_eq!(making_no(&sheet, output + 5, WORKSPACE_NUMBERS + 5), 0);
+    assert_eq!(making_no(&sheet, output - 1, WORKSPACE_NUMBERS), 21);
+    assert_eq!(making_no(&sheet, output - 1, 0), 21);
+    assert_eq!(making_no(&sheet, output, WORKSPACE_NUMBERS - 1), 22);
+    assert_eq!(making_no(&sheet[..27], 0, 0), 16);
+    let empty = sheet_bytes((20, 12), (4, 2), &[]);
+    assert_eq!(making_no(&empty, 12, WORKSPACE_NUMBERS), 0);
+    assert_eq!(making_no(&empty, 11, WORKSPACE_NUMBERS), 21);
+}
+
+/// The number for P1 followed by these bytes.
+fn p1_followed_by(sections: &[u8]) -> u8 {
+    let plate = [&p1()[..], sections].concat();
+    let reading = read_plate(&plate);
+    if reading.number != 0 {
+        assert!(reading.inside.is_empty());
+        assert_eq!(reading.inside.as_ptr(), plate.as_ptr());
+    }
+    reading.number
+}
+
+#[test]
+fn a_plate_asks_the_sheets_questions_with_at_least() {
+    assert_eq!(read_plate(&[]).number, 11);
+    assert_eq!(read_plate(&p1()[..27]).number, 16);
+    assert_eq!(read_plate(&p1_with(0, 2)).number, 12);
+    assert_eq!(read_plate(&p1_with(22, 17)).number, 19);
+    let mut plate = p1_with(26, 3);
+    plate.extend([2, 1, 2, 1, 0, 0]);
+    assert_eq!(read_plate(&plate).number, 20);
+    assert_eq!(p1_followed_by(&[2, 1, 2, 1, 0, 0]), 0);
+}
+
+#[test]
+fn question_41_the_sections() {
+    // No count byte, missing bytes, no second count byte.
+    assert_eq!(p1_followed_by(&[]), 41);
+    assert_eq!(p1_followed_by(&[2]), 41);
+    assert_eq!(p1_followed_by(&[2, 1]), 41);
+    assert_eq!(p1_followed_by(&[2, 1, 2]), 41);
+    assert_eq!(p1_followed_by(&[2, 1, 2, 1]), 41);
+    assert_eq!(p1_followed_by(&[2, 1, 2, 1, 0]), 41);
+    // Bytes left over.
+    assert_eq!(p1_followed_by(&[2, 1, 2, 1, 0, 0, 0]), 41);
+    // Another sum than n.
+    assert_eq!(p1_followed_by(&[2, 1, 2, 0]), 41);
+    assert_eq!(p1_followed_by(&[2, 1, 2, 2, 0, 0, 1, 0]), 41);
+    assert_eq!(p1_followed_by(&[0, 0]), 41);
+    // Counts are added as whole numbers: 255 + 4 isn't 3.
+    let mut sections = vec![255];
+    sections.extend([0; 255]);
+    sections.push(4);
+    sections.extend([0; 8]);
+    assert_eq!(p1_followed_by(&sections), 41);
+    // Asked before the positions.
+    assert_eq!(p1_followed_by(&[2, 9, 9, 0]), 41);
+}
+
+#[test]
+fn question_42_the_inside_positions() {
+    assert_eq!(p1_followed_by(&[2, 1, 3, 1, 0, 0]), 42);
+    assert_eq!(p1_followed_by(&[2, 2, 1, 1, 0, 0]), 42);
+    assert_eq!(p1_followed_by(&[2, 1, 1, 1, 0, 0]), 42);
+    assert_eq!(p1_followed_by(&[2, 255, 1, 1, 0, 0]), 42);
+    // Asked before the outside pairs.
+    assert_eq!(p1_followed_by(&[2, 2, 1, 1, 9, 9]), 42);
+}
+
+#[test]
+fn question_43_the_outside_pairs() {
+    // All outside: rows 7, 4 and 3, label height 2.
+    assert_eq!(p1_followed_by(&[0, 3, 2, 0, 1, 0, 0, 1]), 0);
+    // Wrong order, wrong column, a point twice, an inside point, no such point.
+    assert_eq!(p1_followed_by(&[0, 3, 1, 0, 2, 0, 0, 1]), 43);
+    assert_eq!(p1_followed_by(&[0, 3, 2, 0, 1, 0, 0, 0]), 43);
+    assert_eq!(p1_followed_by(&[0, 3, 2, 0, 1, 1, 0, 2]), 43);
+    assert_eq!(p1_followed_by(&[0, 3, 2, 0, 1, 0, 1, 1]), 43);
+    assert_eq!(p1_followed_by(&[2, 1, 2, 1, 1, 0]), 43);
+    assert_eq!(p1_followed_by(&[2, 1, 2, 1, 3, 0]), 43);
+    assert_eq!(p1_followed_by(&[2, 1, 2, 1, 0, 1]), 43);
+    // Asked before validity: the choice with 0 and 1 inside clashes.
+    assert_eq!(p1_followed_by(&[2, 0, 1, 1, 2, 1]), 43);
+}
+
+#[test]
+fn question_44_validity() {
+    assert_eq!(p1_followed_by(&[2, 0, 1, 1, 2, 0]), 44);
+    assert_eq!(p1_followed_by(&[1, 0, 2, 2, 0, 1, 0]), 44);
+    assert_eq!(p1_followed_by(&[3, 0, 1, 2, 0]), 44);
+    // A valid plate that isn't a best one is accepted.
+    assert_eq!(p1_followed_by(&[1, 2, 2, 1, 0, 0, 1]), 0);
+}
+
+#[test]
+fn made_plates_are_read_back() {
+    let sheet = Sheet::read(&p1()).unwrap();
+    for bits in 0..8 {
+        let choice = Choice(bits);
+        let plate = plate_bytes(&sheet, choice);
+        let reading = read_plate(&plate);
+        if reference::valid(&sheet, choice) {
+            assert_eq!(reading.number, 0);
+            assert_eq!(Choice::of(reading.inside), choice);
+        } else {
+            assert_eq!(reading.number, 44);
+        }
+    }
+}
+
+fn desk_with_p1() -> Desk {
+    let mut desk = Desk::fresh();
+    assert_eq!(desk.load(&p1(), WORKSPACE_NUMBERS), 0);
+    desk
+}
+
+#[test]
+fn question_51_no_sheet() {
+    let mut desk = Desk::fresh();
+    assert_eq!(desk.mark(&[0]), Err(51));
+    assert_eq!(desk.mark(&[]), Err(51));
+    // Refused loads load nothing.
+    assert_eq!(desk.load(&p1()[..27], WORKSPACE_NUMBERS), 16);
+    assert_eq!(desk.load(&p1(), WORKSPACE_NUMBERS - 1), 22);
+    assert_eq!(desk.load(&p1()[..9], 0), 11);
+    assert_eq!(desk.mark(&[0]), Err(51));
+    assert_eq!(desk, Desk::fresh());
+}
+
+#[test]
+fn question_31_the_list_length() {
+    let mut desk = desk_with_p1();
+    assert_eq!(desk.mark(&[]), Err(31));
+    assert_eq!(desk.mark(&[1]), Err(31));
+    assert_eq!(desk.mark(&[0, 0]), Err(31));
+    assert_eq!(desk.mark(&[2, 9]), Err(31));
+    assert_eq!(desk.mark(&[1, 1, 2]), Err(31));
+    assert_eq!(desk, desk_with_p1());
+}
+
+#[test]
+fn questions_32_and_33_entry_by_entry() {
+    let mut desk = desk_with_p1();
+    assert_eq!(desk.mark(&[1, 3]), Err(32));
+    assert_eq!(desk.mark(&[2, 1, 255]), Err(32));
+    assert_eq!(desk.mark(&[2, 1, 1]), Err(33));
+    assert_eq!(desk.mark(&[2, 2, 0]), Err(33));
+    // The first bad entry decides.
+    assert_eq!(desk.mark(&[3, 2, 1, 3]), Err(33));
+    assert_eq!(desk.mark(&[3, 2, 3, 1]), Err(32));
+    // A count above n is no fault of its own.
+    assert_eq!(desk.mark(&[4, 0, 1, 2, 3]), Err(32));
+    assert_eq!(desk.mark(&[4, 0, 1, 2, 2]), Err(33));
+    let long = [&[255][..], &[0; 255]].concat();
+    assert_eq!(desk.mark(&long), Err(33));
+    assert_eq!(desk, desk_with_p1());
+    // With no points every entry is refused.
+    let empty = sheet_bytes((20, 12), (4, 2), &[]);
+    assert_eq!(desk.load(&empty, WORKSPACE_NUMBERS), 0);
+    assert_eq!(desk.mark(&[1, 0]), Err(32));
+    assert!(desk.mark(&[0]).is_ok());
+}
+
+#[test]
+fn question_52_after_9999_numbers() {
+    let mut desk = desk_with_p1();
+    for number in 1..=9999 {
+        // Clashing lists use up a number too, refused ones don't, and a load keeps the last one.
+        let list: &[u8] = if number % 2 == 0 { &[1, 0] } else { &[1, 2] };
+        assert_eq!(desk.mark(list).map(|marked| marked.number), Ok(number));
+        assert_eq!(desk.mark(&[1, 3]), Err(32));
+        if number % 1000 == 0 {
+            assert_eq!(desk.load(&p1(), WORKSPACE_NUMBERS), 0);
+            assert_eq!(desk.last_number(), number);
+        }
+    }
+    let before = desk.clone();
+    assert_eq!(desk.mark(&[0]), Err(52));
+    assert_eq!(desk.mark(&[1, 0]), Err(52));
+    // Asked last.
+    assert_eq!(desk.mark(&[]), Err(31));
+    assert_eq!(desk.mark(&[1, 3]), Err(32));
+    assert_eq!(desk.mark(&[2, 1, 1]), Err(33));
+    assert_eq!(desk, before);
+    // Loads go on, and don't start the numbers anew.
+    assert_eq!(desk.load(&p1(), WORKSPACE_NUMBERS), 0);
+    assert_eq!(desk.mark(&[0]), Err(52));
+}
+
+#[test]
+fn a_load_replaces_the_sheet_and_a_refused_one_does_not() {
+    let mut desk = desk_with_p1();
+    assert_eq!(desk.mark(&[1, 2]).map(|marked| marked.number), Ok(1));
+    let p3 = sheet_bytes((20, 12), (4, 2), &[(1, 2, 3), (2, 6, 4)]);
+    assert_eq!(desk.load(&p3, 0), 22);
+    assert_eq!(desk.loaded(), Some((3, 2)));
+    assert_eq!(desk.load(&p3, WORKSPACE_NUMBERS), 0);
+    assert_eq!(desk.loaded(), Some((2, 2)));
+    let marked = desk.mark(&[2, 0, 1]).unwrap();
+    assert_eq!(marked.number, 2);
+    assert_eq!(
+        marked.verdict,
+        Verdict::Valid {
+            count: 2,
+            shortfall: 0
+        }
+    );
+    assert_eq!(desk.mark(&[1, 2]), Err(32));
+}

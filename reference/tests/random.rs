@@ -1,0 +1,227 @@
+//! Randomized tests: the runs against pixels in a set, the search against trying every choice.
+
+use std::collections::HashSet;
+
+use reference::pixels::{marked_runs, share_a_pixel};
+use reference::random::{falling_sheet, random_sheet, Random};
+use reference::search::{search_best, try_all};
+use reference::{
+    best_choice, best_count, check_sheet, first_clash, inside_positions, margin_columns,
+    plate_bytes, read_plate, run_script, valid, Choice, ClashKind, Desk, Sheet,
+};
+
+/// A small random sheet on which labels and leaders often meet.
+fn small_dense(random: &mut Random, most_points: u16, side: u16, most_label: u16) -> Sheet {
+    let map = (random.between(1, side), random.between(1, side));
+    let label = (random.between(1, most_label), random.between(1, most_label));
+    let n = random.between(0, most_points);
+    let bytes = if random.below(3) == 0 {
+        let noise = random.below(side);
+        falling_sheet(random, map, label, n, noise)
+    } else {
+        random_sheet(random, map, label, n)
+    };
+    Sheet::read(&bytes).unwrap()
+}
+
+/// The pixels that a point marks, one by one and in document 01's words.
+fn pixels_of(sheet: &Sheet, choice: Choice, position: usize) -> HashSet<(i32, i32)> {
+    let point = sheet.points()[position];
+    let (c, r) = (i32::from(point.column), i32::from(point.row));
+    let (w, h) = (
+        i32::from(sheet.label_width()),
+        i32::from(sheet.label_height()),
+    );
+    let mut pixels = HashSet::new();
+    match margin_columns(sheet, choice)[position] {
+        None => {
+            for column in c..=c + w - 1 {
+                for row in r..=r + h - 1 {
+                    pixels.insert((column, row));
+                }
+            }
+        }
+        Some(k) => {
+            let k = i32::from(k);
+            for column in -k * w..=c {
+                pixels.insert((column, r));
+            }
+            for column in -(k + 1) * w..=-k * w - 1 {
+                for row in r..=r + h - 1 {
+                    pixels.insert((column, row));
+                }
+            }
+        }
+    }
+    pixels
+}
+
+/// The first clash by sets of pixels.
+fn clash_by_pixels(sheet: &Sheet, choice: Choice) -> Option<(usize, usize, ClashKind)> {
+    let n = sheet.points().len();
+    let pixels: Vec<_> = (0..n)
+        .map(|position| pixels_of(sheet, choice, position))
+        .collect();
+    for first in 0..n {
+        for second in first + 1..n {
+            if !pixels[first].is_disjoint(&pixels[second]) {
+                let kind = match (choice.contains(first), choice.contains(second)) {
+                    (true, true) => ClashKind::Labels,
+                    (false, false) => panic!("two outside points share a pixel"),
+                    _ => ClashKind::Leader,
+                };
+                return Some((first, second, kind));
+            }
+        }
+    }
+    None
+}
+
+#[test]
+fn runs_agree_with_sets_of_pixels() {
+    let mut random = Random::new(1);
+    for _ in 0..3000 {
+        let sheet = small_dense(&mut random, 8, 14, 6);
+        let choice = Choice(random.next_number() as u32);
+        assert_eq!(first_clash(&sheet, choice), clash_by_pixels(&sheet, choice));
+    }
+}
+
+#[test]
+fn best_count_agrees_with_sets_of_pixels_over_all_choices() {
+    let mut random = Random::new(2);
+    for _ in 0..300 {
+        let sheet = small_dense(&mut random, 6, 10, 5);
+        let n = sheet.points().len();
+        let best = (0..1 << n)
+            .map(Choice)
+            .filter(|&choice| clash_by_pixels(&sheet, choice).is_none())
+            .map(|choice| choice.0.count_ones() as usize)
+            .max();
+        assert_eq!(Some(best_count(&sheet)), best);
+    }
+}
+
+#[test]
+fn best_count_agrees_with_marking_every_choice() {
+    let mut random = Random::new(3);
+    for _ in 0..400 {
+        let sheet = small_dense(&mut random, 10, 20, 6);
+        let n = sheet.points().len();
+        let best = (0..1 << n)
+            .map(Choice)
+            .filter(|&choice| valid(&sheet, choice))
+            .map(|choice| choice.0.count_ones() as usize)
+            .max();
+        assert_eq!(Some(best_count(&sheet)), best);
+        let searched = search_best(&sheet).unwrap();
+        assert!(valid(&sheet, searched));
+        assert_eq!(Some(searched.0.count_ones() as usize), best);
+    }
+}
+
+#[test]
+fn the_search_agrees_with_trying_every_choice() {
+    let mut random = Random::new(4);
+    for round in 0..3000 {
+        // Mostly small sheets, and some on which trying every choice takes longer.
+        let most_points = if round % 20 == 0 { 17 } else { 12 };
+        let sheet = small_dense(&mut random, most_points, 30, 8);
+        let searched = search_best(&sheet).unwrap();
+        let tried = try_all(&sheet);
+        assert!(valid(&sheet, searched));
+        assert!(valid(&sheet, tried));
+        assert_eq!(searched.0.count_ones(), tried.0.count_ones());
+    }
+}
+
+#[test]
+fn large_sheets_have_valid_best_choices_that_no_neighbour_beats() {
+    let mut random = Random::new(5);
+    for _ in 0..300 {
+        let side = random.between(32, 120);
+        let label = (random.between(1, 30), random.between(1, 30));
+        let bytes = random_sheet(&mut random, (side, side), label, 32);
+        let sheet = Sheet::read(&bytes).unwrap();
+        let best = best_choice(&sheet);
+        assert!(valid(&sheet, best));
+        // Putting up to two more points inside clashes.
+        for a in 0..32 {
+            for b in a..32 {
+                let more = Choice(best.0 | 1 << a | 1 << b);
+                assert!(more == best || !valid(&sheet, more));
+            }
+        }
+        let reading_bytes = plate_bytes(&sheet, best);
+        let reading = read_plate(&reading_bytes);
+        assert_eq!(reading.number, 0);
+        assert_eq!(Choice::of(reading.inside), best);
+    }
+}
+
+#[test]
+fn outside_points_never_clash() {
+    let mut random = Random::new(6);
+    for _ in 0..2000 {
+        let side = random.between(4, 200);
+        let label = (random.between(1, 40), random.between(1, 40));
+        let n = random.between(1, 32);
+        let bytes = random_sheet(&mut random, (side, side), label, n);
+        let sheet = Sheet::read(&bytes).unwrap();
+        let choice = Choice(random.next_number() as u32);
+        let marked = marked_runs(&sheet, choice);
+        for first in 0..marked.len() {
+            for second in first + 1..marked.len() {
+                if !choice.contains(first) && !choice.contains(second) {
+                    assert!(!share_a_pixel(&marked[first], &marked[second]));
+                }
+            }
+        }
+    }
+}
+
+#[test]
+fn any_bytes_get_an_answer() {
+    let mut random = Random::new(7);
+    for _ in 0..20000 {
+        // Bytes that are random, or a sheet or plate with some bytes changed, cut or added.
+        let mut bytes = match random.below(3) {
+            0 => Vec::new(),
+            1 => small_dense(&mut random, 6, 12, 5).bytes().to_vec(),
+            _ => {
+                let sheet = small_dense(&mut random, 6, 12, 5);
+                plate_bytes(&sheet, Choice(random.next_number() as u32))
+            }
+        };
+        for _ in 0..random.below(4) {
+            match random.below(3) {
+                0 => bytes.push(random.next_number() as u8),
+                1 => {
+                    bytes.pop();
+                }
+                _ => {
+                    let place = usize::from(random.below(bytes.len() as u16));
+                    if let Some(byte) = bytes.get_mut(place) {
+                        *byte = random.next_number() as u8;
+                    }
+                }
+            }
+        }
+        let number = check_sheet(&bytes);
+        assert!(number == 0 || (11..=20).contains(&number));
+        let reading = read_plate(&bytes);
+        let number = reading.number;
+        assert!(matches!(number, 0 | 11..=20 | 41..=44));
+        if number == 0 {
+            let sheet = Sheet::read_start(&bytes).unwrap();
+            let choice = Choice::of(reading.inside);
+            assert_eq!(plate_bytes(&sheet, choice), bytes);
+            assert!(valid(&sheet, choice));
+            assert!(inside_positions(&sheet, choice).len() <= best_count(&sheet));
+        }
+        let mut desk = Desk::fresh();
+        desk.load(&bytes, usize::from(random.below(2)) * 32768);
+        let _ = desk.mark(&bytes);
+        let _ = run_script(&bytes);
+    }
+}

@@ -1,0 +1,263 @@
+//! The worked plates P1 to P10, the other examples and the plausible errors of document 01.
+
+use reference::random::sheet_bytes;
+use reference::search::{each_choice, search_best, try_all};
+use reference::{
+    best_choice, best_count, first_clash, listing, margin_columns, margin_width, plate_bytes,
+    read_plate, valid, Choice, ClashKind, Desk, Marked, Sheet, Verdict, WORKSPACE_NUMBERS,
+};
+
+/// The bytes of a sheet on a map of 20 by 12; call numbers are 17, 18 and so on.
+fn bytes_of(label: (u16, u16), points: &[(u16, u16)]) -> Vec<u8> {
+    let points: Vec<_> = (17..)
+        .zip(points)
+        .map(|(call, point)| (call, point.0, point.1))
+        .collect();
+    sheet_bytes((20, 12), label, &points)
+}
+
+fn sheet_of(label: (u16, u16), points: &[(u16, u16)]) -> Sheet {
+    Sheet::read(&bytes_of(label, points)).unwrap()
+}
+
+/// All valid choices of the best count. Both ways of finding it have to agree with them.
+fn best_choices(sheet: &Sheet) -> Vec<Choice> {
+    let n = sheet.points().len();
+    for count in (0..=n).rev() {
+        let mut found = Vec::new();
+        each_choice(n, count, &mut |choice| {
+            if valid(sheet, choice) {
+                found.push(choice);
+            }
+            false
+        });
+        if !found.is_empty() {
+            assert_eq!(best_count(sheet), count);
+            assert!(found.contains(&best_choice(sheet)));
+            assert!(found.contains(&try_all(sheet)));
+            assert!(found.contains(&search_best(sheet).unwrap()));
+            return found;
+        }
+    }
+    panic!("nothing inside has to be valid");
+}
+
+const P1: [u8; 28] = [
+    0x01, 0x14, 0x00, 0x0a, 0x00, 0x04, 0x00, 0x02, 0x00, 0x03, 0x11, 0x00, 0x02, 0x00, 0x03, 0x00,
+    0x12, 0x00, 0x04, 0x00, 0x04, 0x00, 0x13, 0x00, 0x0a, 0x00, 0x07, 0x00,
+];
+
+#[test]
+fn p1_bytes_plate_and_listing() {
+    let points = [(17, 2, 3), (18, 4, 4), (19, 10, 7)];
+    assert_eq!(sheet_bytes((20, 10), (4, 2), &points), P1);
+    let sheet = Sheet::read(&P1).unwrap();
+    assert_eq!(best_choices(&sheet), [Choice::of(&[1, 2])]);
+    let plate = plate_bytes(&sheet, best_choice(&sheet));
+    assert_eq!(plate[..28], P1);
+    assert_eq!(plate[28..], [0x02, 0x01, 0x02, 0x01, 0x00, 0x00]);
+    let reading = read_plate(&plate);
+    assert_eq!((reading.number, reading.inside), (0, &[1, 2][..]));
+    assert_eq!(reading.inside.as_ptr(), plate[29..].as_ptr());
+    assert_eq!(
+        listing(&P1, best_choice(&sheet)),
+        "plate 3 2 1\n17 out 0\n18 in\n19 in\n"
+    );
+}
+
+#[test]
+fn a_refused_listing() {
+    assert_eq!(listing(&P1[..27], Choice::default()), "refused 16\n");
+}
+
+#[test]
+fn p2_only_the_third_inside() {
+    let sheet = sheet_of((4, 3), &[(0, 5), (6, 6), (8, 7)]);
+    assert_eq!(best_choices(&sheet), [Choice::of(&[2])]);
+    assert_eq!(
+        margin_columns(&sheet, Choice::of(&[2])),
+        [Some(1), Some(0), None]
+    );
+    // Taking points left to right would put the first inside; its label meets a leader.
+    assert_eq!(
+        first_clash(&sheet, Choice::of(&[0])),
+        Some((0, 1, ClashKind::Leader))
+    );
+}
+
+#[test]
+fn p3_touching_labels_do_not_clash() {
+    let sheet = sheet_of((4, 2), &[(2, 3), (6, 4)]);
+    assert_eq!(best_choices(&sheet), [Choice::of(&[0, 1])]);
+}
+
+#[test]
+fn p4_the_second_alone() {
+    let sheet = sheet_of((4, 2), &[(2, 3), (5, 4)]);
+    assert_eq!(best_choices(&sheet), [Choice::of(&[1])]);
+    assert_eq!(
+        first_clash(&sheet, Choice::of(&[0, 1])),
+        Some((0, 1, ClashKind::Labels))
+    );
+    assert_eq!(
+        first_clash(&sheet, Choice::of(&[0])),
+        Some((0, 1, ClashKind::Leader))
+    );
+}
+
+#[test]
+fn p5_a_leader_that_ends_before_the_label() {
+    let sheet = sheet_of((4, 2), &[(4, 3), (3, 4)]);
+    assert!(valid(&sheet, Choice::of(&[0])));
+}
+
+#[test]
+fn p6_a_leader_that_ends_in_the_label() {
+    let sheet = sheet_of((4, 2), &[(4, 3), (4, 4)]);
+    assert_eq!(
+        first_clash(&sheet, Choice::of(&[0])),
+        Some((0, 1, ClashKind::Leader))
+    );
+}
+
+#[test]
+fn p7_one_label_upon_the_other() {
+    let sheet = sheet_of((4, 2), &[(2, 3), (2, 5)]);
+    assert_eq!(best_choices(&sheet), [Choice::of(&[0, 1])]);
+}
+
+#[test]
+fn p8_and_p9_margin_columns() {
+    let none = Choice::default();
+    let p8 = sheet_of((4, 3), &[(5, 10), (5, 9), (5, 7)]);
+    assert_eq!(margin_columns(&p8, none), [Some(0), Some(1), Some(2)]);
+    assert_eq!(margin_width(&p8, none), 3);
+    assert!(valid(&p8, none));
+    let p9 = sheet_of((4, 3), &[(5, 10), (5, 9), (5, 6)]);
+    assert_eq!(margin_columns(&p9, none), [Some(0), Some(1), Some(0)]);
+    assert_eq!(margin_width(&p9, none), 2);
+    assert!(valid(&p9, none));
+    // The order of the list doesn't matter, only the rows do.
+    let turned = sheet_of((4, 3), &[(5, 7), (5, 10), (5, 9)]);
+    assert_eq!(margin_columns(&turned, none), [Some(2), Some(0), Some(1)]);
+}
+
+#[test]
+fn p8_third_in_column_0_is_across_a_leader() {
+    // The error of testing an outer label only against the one placed before it.
+    let sheet = sheet_of((4, 3), &[(5, 10), (5, 9), (5, 7)]);
+    let second = reference::pixels::outside_runs(&sheet, 1, 1);
+    let wrong_third = reference::pixels::outside_runs(&sheet, 2, 0);
+    assert!(reference::pixels::share_a_pixel(&second, &wrong_third));
+    let mut plate = plate_bytes(&sheet, Choice::default());
+    assert_eq!(plate[28..], [0, 3, 0, 0, 1, 1, 2, 2]);
+    assert_eq!(read_plate(&plate).number, 0);
+    plate[35] = 0;
+    assert_eq!(read_plate(&plate).number, 43);
+}
+
+#[test]
+fn p10_no_points() {
+    let bytes = bytes_of((4, 2), &[]);
+    let sheet = Sheet::read(&bytes).unwrap();
+    assert_eq!(best_count(&sheet), 0);
+    let plate = plate_bytes(&sheet, best_choice(&sheet));
+    assert_eq!(plate, [&bytes[..], &[0, 0]].concat());
+    let reading = read_plate(&plate);
+    assert_eq!((reading.number, reading.inside), (0, &[][..]));
+    assert_eq!(reading.inside.as_ptr(), plate[11..].as_ptr());
+    assert_eq!(listing(&bytes, Choice::default()), "plate 0 0 0\n");
+}
+
+#[test]
+fn two_best_choices() {
+    let sheet = sheet_of((4, 2), &[(4, 3), (3, 4)]);
+    assert_eq!(best_choices(&sheet), [Choice::of(&[0]), Choice::of(&[1])]);
+}
+
+#[test]
+fn the_desk_on_p1() {
+    let mut desk = Desk::fresh();
+    assert_eq!(desk.load(&P1, WORKSPACE_NUMBERS), 0);
+    assert_eq!(desk.loaded(), Some((3, 2)));
+    assert_eq!(
+        desk.mark(&[2, 1, 2]),
+        Ok(Marked {
+            number: 1,
+            verdict: Verdict::Valid {
+                count: 2,
+                shortfall: 0
+            }
+        })
+    );
+    assert_eq!(
+        desk.mark(&[1, 0]),
+        Ok(Marked {
+            number: 2,
+            verdict: Verdict::Clash {
+                first: 0,
+                second: 1,
+                kind: ClashKind::Leader
+            }
+        })
+    );
+    assert_eq!(
+        desk.mark(&[0]),
+        Ok(Marked {
+            number: 3,
+            verdict: Verdict::Valid {
+                count: 0,
+                shortfall: 2
+            }
+        })
+    );
+    assert_eq!(
+        desk.mark(&[2, 0, 1]),
+        Ok(Marked {
+            number: 4,
+            verdict: Verdict::Clash {
+                first: 0,
+                second: 1,
+                kind: ClashKind::Labels
+            }
+        })
+    );
+}
+
+#[test]
+fn a_label_reaching_up_from_under_a_lower_wall() {
+    // With the second outside as a lower wall, the first is below it and right of it, and its
+    // label meets that of the third, which is above the wall and left of it.
+    let sheet = sheet_of((4, 3), &[(6, 3), (5, 4), (4, 5)]);
+    assert_eq!(
+        first_clash(&sheet, Choice::of(&[0, 2])),
+        Some((0, 2, ClashKind::Labels))
+    );
+    assert!(valid(&sheet, Choice::of(&[0])));
+    assert!(valid(&sheet, Choice::of(&[2])));
+    assert_eq!(best_choices(&sheet).len(), 3);
+    assert_eq!(best_count(&sheet), 1);
+}
+
+#[test]
+fn labels_may_run_over_the_right_and_top_edge() {
+    let sheet = sheet_of((256, 256), &[(19, 11)]);
+    assert_eq!(best_count(&sheet), 1);
+    // Two labels that meet only beyond the top edge still meet.
+    let sheet = sheet_of((2, 2), &[(18, 11), (19, 10)]);
+    assert!(!valid(&sheet, Choice::of(&[0, 1])));
+}
+
+#[test]
+fn the_smallest_pair_is_named() {
+    // Labels 1 and 2 meet; the leader of 0 meets the label of 2 only.
+    let sheet = sheet_of((4, 3), &[(4, 5), (6, 3), (4, 4)]);
+    assert_eq!(
+        first_clash(&sheet, Choice::of(&[1, 2])),
+        Some((0, 2, ClashKind::Leader))
+    );
+    assert_eq!(
+        first_clash(&sheet, Choice::of(&[0, 1, 2])),
+        Some((0, 1, ClashKind::Labels))
+    );
+}
