@@ -30,7 +30,7 @@ fn read(sheet: &[u8]) -> (i32, i32, Vec<(i32, i32)>) {
     (number(5), number(7), points)
 }
 
-/// The conflicts of optimum.md's table; bit i says whether i is inside.
+/// The conflicts of two points, as crates/labeling/specs/ConflictTable.antt has them; bit i says whether i is inside.
 fn valid(sheet: &[u8], inside: u32) -> bool {
     let (w, h, points) = read(sheet);
     let is_in = |i: usize| inside >> i & 1 == 1;
