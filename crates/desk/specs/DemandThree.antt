@@ -22,7 +22,7 @@ use Rattle.format.specs.declared.clash.ClashKind.{ClashKind}
 use Rattle.format.specs.declared.clash.Clash.{Clash}
 use Rattle.format.specs.declared.clash.Clash.the-variants.{None, Between}
 use Rattle.format.specs.Sheet.{pointCount, pointsOf}
-use Rattle.format.specs.Accepted.{Accepted, accepted}
+use Rattle.format.specs.Accepted.{Accepted}
 use Rattle.format.specs.Plate.{choiceOf, insideBelow, plateOf}
 use Rattle.format.specs.FirstClash.{isClash, firstClash}
 use Rattle.format.specs.InsideList.{choice-of-list, inside-ascending}
@@ -110,6 +110,13 @@ markNoAfter calls l = markNo (loadedAfter calls) (pointsIn (lastSheet calls)) (l
 abbrev pub MarkedAfter : Calls → List ℕ → Type 0
 MarkedAfter calls l = markNoAfter calls l ≡ 0
 
+-- which is: a sheet is loaded, 31 to 33 are answered yes with its n, and the last number is below 9,999
+pub marked-exactly : (calls : Calls) (l : List ℕ) → MarkedAfter calls l ↔ ((loadedAfter calls ≡ true) × (listNo (pointsIn (lastSheet calls)) l ≡ 0) × (lastNumber calls < 9999))
+marked-exactly calls l =
+    let m = none-mark (loadedAfter calls) (pointsIn (lastSheet calls)) (lastNumber calls) l in
+    let n = none-list (pointsIn (lastSheet calls)) l in
+    (λ z. (m .is z .0 .0, n .of (m .is z .0 .1), m .is z .1 .0), λ a. m .of ((a .0, n .is (a .1)), (a .2, tt)))
+
 -- "A list is well-formed for a sheet if 31 to 33 are answered yes with that sheet's n."
 abbrev pub WellFormed : List ℕ → List ℕ → Type 0
 WellFormed s l = listNo (pointCount s) l ≡ 0
@@ -187,7 +194,7 @@ pub record VerdictRight (s l : List ℕ) (v : Verdict) : Type 0 where
   -- which is not above the best count
   pub at-most : Valid (pointsOf s) (choiceOfList l) → listCount l ≤ bestCount (pointsOf s)
   -- "and for any other C the desk names the clash that document 01 fixes": the smallest first position, then the smallest second, that
-  -- share a pixel, with the kind labels exactly if both are inside
+  -- share a pixel, with the kind labels exactly if both are inside (Named, of format's ClashPixels.antt)
   pub clash : (first second : ℕ) (kind : ClashKind) → (v ≡ ClashVerdict first second kind) ↔ Named (pointsOf s) (choiceOfList l) first second kind
 
 -- A marked list: there is a last accepted sheet, the answer has the next number and a verdict, and the verdict is right.
@@ -222,7 +229,8 @@ pub record DemandThree (calls : Calls) : Type 0 where
   -- and of whatever call comes next
   pub load : (s w : List ℕ) → LoadRight calls s w
   pub mark : (l : List ℕ) → MarkRight calls l
-  -- "At every point of the sequence that has a last accepted sheet S, the inside section of every plate made from S, count byte included"
+  -- "At every point of the sequence that has a last accepted sheet S, the inside section of every plate made from S, count byte included":
+  -- sectionRead, of Loaded.antt, takes it from the plate's bytes
   pub plates : (s : List ℕ) → lastSheet calls ≡ some s → (p : List ℕ) → PlateMade s p → BestList s (sectionRead p)
 
 -- THE PROOF

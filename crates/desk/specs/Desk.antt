@@ -1,6 +1,6 @@
 -- What load and mark answer and leave, on every value of the desk, reachable or not (document 01, "The desk"). Assumes nothing.
 use mathlib.Core.Path.{_≡_, refl, sym}
-use mathlib.Core.Bool.{Bool, true, false, cond, true≢false}
+use mathlib.Core.Bool.{Bool, true, false, cond, not, true≢false}
 use mathlib.Core.List.{List, _++_}
 use mathlib.Core.Option.{Option, none, some}
 use Prim.Native.Nat.{ℕ, _-_}
@@ -110,6 +110,15 @@ pub record MarkOutcome : Type 0 where
 abbrev pub markOutcome : MarkAnswer → MarkOutcome
 markOutcome (Marked number verdict) = record { refused = false; number = 0; listNumber = some number; verdict = some verdict }
 markOutcome (RefusedMark k) = record { refused = true; number = k; listNumber = none; verdict = none }
+
+-- The outcome of a mark whose first no is k, with the number and the verdict that it has if k is 0.
+abbrev pub markOutcomeOf : ℕ → ℕ → Verdict → MarkOutcome
+markOutcomeOf k number verdict = record {
+  refused = not (eqb k 0);
+  number = k;
+  listNumber = cond (eqb k 0) (some number) none;
+  verdict = cond (eqb k 0) (some verdict) none;
+}
 
 -- an outcome fixes the answer, constructor, numbers and verdict
 pub mark-outcome-fixes : (a b : MarkAnswer) → markOutcome a ≡ markOutcome b → a ≡ b
