@@ -5,8 +5,8 @@ use Prim.Native.Nat.{ℕ, _+_, _≤_}
 use lib.ListN.{length, drop, length-append}
 use native.Mathlib.Omega.{arith}
 use Rattle.format.specs.Plate.{plateOf}
-use Rattle.plate_maker.specs.Making.{bestLength, makingNo, makeOutcomeOf, Making}
-use Rattle.plate_maker.specs.MakingLaws.{none-making}
+use Rattle.format.specs.MakingQuestions.{makingNo, none-making}
+use Rattle.plate_maker.specs.Making.{bestLength, makeOutcomeOf, Making}
 use Rattle.plate_maker.specs.declared.MakeAnswer.{MakeAnswer}
 use Rattle.plate_maker.specs.declared.MakeAnswer.the-variants.{Made}
 use Rattle.desk.specs.Loaded.{plate-best-length}

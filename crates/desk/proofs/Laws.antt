@@ -19,7 +19,8 @@ use Rattle.format.specs.declared.clash.Clash.the-variants.{None, Between}
 use Rattle.format.specs.Plate.{choiceOf}
 use Rattle.format.specs.FirstClash.{firstClash}
 use Rattle.format.specs.PlateQuestions.{insideCount}
-use Rattle.plate_maker.specs.Making.{buffersNo, makingNo, makeOutcome, BestOutput, Making, workspaceAfter}
+use Rattle.format.specs.MakingQuestions.{buffersNo, makingNo, workspaceAfter}
+use Rattle.plate_maker.specs.Making.{makeOutcome, BestOutput, Making}
 use Rattle.plate_maker.specs.declared.MakeAnswer.{MakeAnswer}
 use Rattle.plate_maker.specs.declared.MakeAnswer.the-variants.{Made, Refused as RefusedMaking}
 use Rattle.desk.specs.Questions.{loadNo, listCount, aboveBefore, entryNo, entriesNo}

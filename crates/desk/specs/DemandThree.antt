@@ -28,7 +28,8 @@ use Rattle.format.specs.FirstClash.{isClash, firstClash}
 use Rattle.format.specs.InsideList.{choice-of-list, inside-ascending}
 use Rattle.format.specs.PlateLength.{inside-length}
 use Rattle.format.specs.ClashPixels.{Named, FirstClashRight, first-clash-right}
-use Rattle.plate_maker.specs.Making.{bestLength, makingNo, makeOutcome, makeOutcomeOf, workspaceAfter, BestOutput, Making}
+use Rattle.format.specs.MakingQuestions.{makingNo, workspaceAfter}
+use Rattle.plate_maker.specs.Making.{bestLength, makeOutcome, makeOutcomeOf, BestOutput, Making}
 use Rattle.plate_maker.specs.declared.MakeAnswer.{MakeAnswer}
 use Rattle.plate_maker.specs.declared.MakeAnswer.the-variants.{Made, Refused}
 use Rattle.desk.specs.Questions.{loadNo, positions, listCount, listNo, loadedListNo, markNo}

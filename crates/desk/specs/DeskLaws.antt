@@ -6,13 +6,13 @@ use Prim.Native.Nat.{ℕ, _≤_, _<_}
 use lib.ListN.{length}
 use borrow.Author.Tests.{eq-eqb, ne-eqb}
 use native.Mathlib.Omega.{arith}
-use Rattle.labeling.specs.Tests.{same, dec-le, dec-lt}
+use Rattle.labeling.specs.Tests.{same, dec-lt}
 use Rattle.labeling.specs.Best.{bestCount}
 use Rattle.format.specs.Sheet.{pointsOf}
 use Rattle.format.specs.Answers.{outcomeOf}
 use Rattle.format.specs.Accepted.{Accepted, NoneOf, none-ask, none-left, none-sheet}
 use Rattle.format.specs.Asking.{none-then}
-use Rattle.plate_maker.specs.Making.{workspaceNo}
+use Rattle.format.specs.MakingQuestions.{none-workspace}
 use Rattle.desk.specs.Questions.{loadNo, nextNumber, loadedListNo, markNo}
 use Rattle.desk.specs.Desk.{withSheet, loadOf, verdictOf, firstNo, withLast, markOf, loadOutcome, markOutcome, markOutcomeOf}
 use Rattle.desk.specs.Lists.{Listed, none-list}
@@ -36,9 +36,6 @@ load-outcome d s w =
     same (loadNo s (length w)) 0
     (λ e. ap (λ r. loadOutcome (r .answer)) (load-yes d s w e) ∙ rw e)
     (λ ne. ap (λ r. loadOutcome (r .answer)) (load-no d s w ne) ∙ rw (ne-eqb _ 0 ne))
-
-none-workspace : (cells : ℕ) → NoneOf (workspaceNo cells) ((32768 ≤ cells) × Unit {0})
-none-workspace cells = none-ask 22 (omega arith) (dec-le _ _) none-left
 
 -- a load is accepted exactly if its sheet is and the workspace is large enough
 pub none-load : (s : List ℕ) (cells : ℕ) → NoneOf (loadNo s cells) (Accepted s × ((32768 ≤ cells) × Unit {0}))

@@ -6,7 +6,7 @@ use Prim.Native.Nat.{ℕ, zero, suc, _+_}
 use lib.Dec.{ltb, eqb}
 use lib.ListN.{length, getD, drop}
 use Rattle.format.specs.Sheet.{ask, thenNo, sheetNo}
-use Rattle.plate_maker.specs.Making.{workspaceNo}
+use Rattle.format.specs.MakingQuestions.{workspaceNo}
 
 -- LOAD
 

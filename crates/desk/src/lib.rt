@@ -9,7 +9,7 @@ use marking::answer_to;
 use marking::first_no;
 use plate_maker::MakeAnswer;
 ghost use mathlib.Core.Path.{_≡_};
-ghost use Rattle.plate_maker.specs.Making.{workspaceAfter};
+ghost use Rattle.format.specs.MakingQuestions.{workspaceAfter};
 ghost use Rattle.desk.specs.Desk.{fresh, loadOf, loadOutcome, markOf};
 
 mod loading;

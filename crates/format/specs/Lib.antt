@@ -6,6 +6,7 @@ pub mod Bytes
 pub mod Answers
 pub mod Accepted
 pub mod Start
+pub mod MakingQuestions
 pub mod PlateLength
 pub mod PlateBytes
 pub mod FirstClash

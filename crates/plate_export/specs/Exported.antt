@@ -10,7 +10,8 @@ use Rattle.format.specs.PlateQuestions.{insideStart, plateNo, handedBackAt}
 use Rattle.format.specs.PlateAnswers.{plateOutcome, plateOutcomeOf}
 use Rattle.format.specs.declared.plate.PlateAnswer.{PlateAnswer}
 use Rattle.format.specs.declared.plate.PlateAnswer.the-variants.{Accepted as AcceptedPlate, Refused as RefusedPlate}
-use Rattle.plate_maker.specs.Making.{makingNo, makeOutcomeOf, workspaceAfter, BestOutput, Making}
+use Rattle.format.specs.MakingQuestions.{makingNo, workspaceAfter}
+use Rattle.plate_maker.specs.Making.{makeOutcomeOf, BestOutput, Making}
 use Rattle.plate_maker.specs.declared.MakeAnswer.{MakeAnswer}
 use Rattle.plate_maker.specs.declared.MakeAnswer.the-variants.{Made, Refused}
 

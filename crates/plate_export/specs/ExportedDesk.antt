@@ -4,7 +4,7 @@ use mathlib.Core.List.{List}
 use Prim.Native.Nat.{ℕ}
 use Rattle.format.specs.declared.clash.ClashKind.{ClashKind}
 use Rattle.format.specs.declared.clash.ClashKind.the-variants.{Labels, LabelAndLeader}
-use Rattle.plate_maker.specs.Making.{workspaceAfter}
+use Rattle.format.specs.MakingQuestions.{workspaceAfter}
 use Rattle.desk.specs.Desk.{loadOf, loadOutcome, markOf}
 use Rattle.desk.specs.declared.Desk.{Desk}
 use Rattle.desk.specs.declared.LoadResult.{LoadResult}

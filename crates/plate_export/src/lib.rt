@@ -1,7 +1,7 @@
 // The calls for other languages, over numbers, slices and plain structs.
 ghost use mathlib.Core.Path.{_≡_};
 ghost use Rattle.format.specs.Sheet.{sheetNo};
-ghost use Rattle.plate_maker.specs.Making.{workspaceAfter};
+ghost use Rattle.format.specs.MakingQuestions.{workspaceAfter};
 ghost use Rattle.desk.specs.Desk.{fresh, loadOf, markOf};
 ghost use Rattle.plate_export.specs.Exported.{MakingExported, ReadingExported};
 ghost use Rattle.plate_export.specs.ExportedDesk.{deskOf, stateOf, loadReply, kindNumber, verdictReply, markReply};

@@ -1,39 +1,20 @@
--- The recovered choice is a best choice of the sheet, and its plate has the length of a best plate. Assumes nothing.
-use mathlib.Core.Path.{_≡_, refl, ap, _∙_}
-use mathlib.Core.Bool.{Bool, true, false, cond}
+-- The plate of a best choice has the length of a best plate, and is written into a best output. Assumes nothing.
+use mathlib.Core.Path.{_≡_, refl, sym, ap, _∙_}
 use mathlib.Core.List.{List, _++_}
-use Prim.Native.Nat.{ℕ, suc, _+_, _-_, _*_, _≤_}
-use lib.Dec.{eqb}
-use lib.ListN.{length, getD, replicate, length-replicate, getD-replicate, drop}
+use Prim.Native.Nat.{ℕ, _+_, _-_, _*_, _≤_}
+use lib.ListN.{length, take, drop, replicate, length-append}
+use lib.Seq.{take-at}
 use native.Mathlib.Omega.{arith}
 use Rattle.labeling.specs.Points.{Choice, outside}
-use Rattle.labeling.specs.Marks.{Valid}
-use Rattle.labeling.specs.Best.{count, bestCount, oneEach, Best, best}
-use Rattle.labeling.specs.Greatest.{some-best, best-counts}
-use Rattle.labeling.specs.Recurrence.{Point, Sorted, recovered}
-use Rattle.labeling.specs.Optimum.{optimum, chosen}
-use Rattle.labeling.specs.Positions.{Arranged, SameChoice, AllAllowed, best-optimum, chosen-best}
+use Rattle.labeling.specs.Best.{weight, count, bestCount}
 use Rattle.format.specs.Sheet.{pointCount, pointsOf}
-use Rattle.format.specs.Plate.{plateOf}
+use Rattle.format.specs.Plate.{insideBelow, insideSection, outsideSection, plateOf}
 use Rattle.format.specs.Accepted.{Accepted}
-use Rattle.format.specs.PlateLength.{plate-length, inside-outside}
-use Rattle.plate_maker.specs.Arrays.{heightsOf, positionAt}
-use Rattle.plate_maker.specs.Table.{Blank, Solved}
-use Rattle.plate_maker.specs.Writing.{choiceOf}
-use Rattle.plate_maker.specs.Making.{bestLength, BestMade}
-
--- The marks by position are those by height.
-pub record ByPosition (heights mark inside : List ℕ) : Type 0 where
-  pub at : (i : ℕ) → Point (heightsOf heights) i → getD inside (positionAt heights i) 0 ≡ getD mark i 0
-
--- no point is marked
-pub none-blank : Blank (replicate 34 0)
-none-blank = record { long = length-replicate {A = ℕ} 34 0; zero = λ i l. getD-replicate {A = ℕ} 34 i 0 0 l }
-
--- a mark is 1 exactly where it was put by a true test
-mark-is : (b : Bool) → eqb (cond b 1 0) 1 ≡ b
-mark-is true = refl
-mark-is false = refl
+use Rattle.format.specs.PlateLength.{plate-length, inside-length, inside-outside}
+use Rattle.optimum.specs.Choosing.{padded, BestSplit}
+use Rattle.optimum.specs.declared.BestChoice.{BestChoice}
+use Rattle.plate_maker.specs.Making.{bestLength, BestOutput}
+use Rattle.plate_maker.specs.Writing.{sectionOf, plateOfLists}
 
 -- the plate of a choice of the best count has the length of a best plate
 pub best-length : (s : List ℕ) (S : Choice) → Accepted s → count (pointsOf s) S ≡ bestCount (pointsOf s) → length (plateOf s S) ≡ bestLength s
@@ -43,35 +24,45 @@ best-length s S a e =
     let l : length (plateOf s S) ≡ 12 + 6 * pointCount s + count (pointsOf s) S + 2 * length (outside (pointsOf s) S) = plate-length s S a in
     omega arith
 
-module _ (s heights mark inside : List ℕ) {r : ℕ} (a : Accepted s) (sorted : Sorted (heightsOf heights)) (A : Arranged (pointsOf s) oneEach (heightsOf heights) (positionAt heights)) (all : AllAllowed (heightsOf heights)) (solved : Solved (heightsOf heights) mark r) (by : ByPosition heights mark inside) where
-  -- the marks by position spell the recovered choice
-  marks-chosen : SameChoice (heightsOf heights) (positionAt heights) (choiceOf inside) (chosen (heightsOf heights))
-  unfolding choiceOf chosen
-  marks-chosen = record {
-    at = λ i p. ap (λ x. eqb x 1) (by .at i p ∙ solved .marks i p) ∙ mark-is (recovered (heightsOf heights) (heightsOf heights .n) 0 (suc (heightsOf heights .n)) 0 i);
-  }
+-- the first cells of a padded list are the list
+pub padded-take : (l : List ℕ) → take (length l) (padded l) ≡ l
+unfolding padded
+padded-take l = take-at l _ (length l) refl
 
-  -- rows are distinct, so there is a choice
-  has-choice : 1 ≤ optimum (heightsOf heights)
-  has-choice =
-      let e : best (pointsOf s) oneEach ≡ optimum (heightsOf heights) = best-optimum A sorted all in
-      omega (arith, some-best (pointsOf s) oneEach (a .proper .label-width .0) (a .proper .rows))
+-- the plate of a choice is that of its two lists
+plate-of-lists : (s : List ℕ) (S : Choice) → plateOf s S ≡ plateOfLists s (insideBelow S (pointCount s)) (outside (pointsOf s) S)
+unfolding plateOf plateOfLists insideSection outsideSection sectionOf
+plate-of-lists s S = refl
 
-  marks-best : Best (pointsOf s) oneEach (choiceOf inside)
-  marks-best = chosen-best A sorted all has-choice (choiceOf inside) marks-chosen .0
+padded-length : (l : List ℕ) → length l ≤ length (padded l)
+unfolding padded
+padded-length l = omega (arith, length-append l (replicate (32 - length l) 0))
 
-  -- THE MARKS ARE A VALID CHOICE
-  pub marks-valid : Valid (pointsOf s) (choiceOf inside)
-  marks-valid = marks-best .valid
+module _ (s : List ℕ) (r : BestChoice) (a : Accepted s) (b : BestSplit s r) where
+  -- the two lists, read from their cells
+  pub inside-fits : r .«inside_count» ≤ length (r .inside)
+  inside-fits = rw (b .inside-count, b .inside) (padded-length (insideBelow (b .choice) (pointCount s)))
 
-  -- OF THE BEST COUNT
-  pub marks-count : count (pointsOf s) (choiceOf inside) ≡ bestCount (pointsOf s)
-  marks-count = best-counts (pointsOf s) (choiceOf inside) (a .proper .label-width .0) marks-best
+  pub outside-fits : r .«outside_count» ≤ length (r .outside)
+  outside-fits = rw (b .outside-count, b .outside-points) (padded-length (outside (pointsOf s) (b .choice)))
 
-  -- SO THEIR PLATE IS A BEST PLATE
-  pub best-made : (o o′ w w′ : List ℕ) (k : ℕ) → k ≡ length (plateOf s (choiceOf inside)) → o′ ≡ plateOf s (choiceOf inside) ++ drop (length (plateOf s (choiceOf inside))) o → w′ ≡ replicate (length w) 0 → BestMade s o w k o′ w′
-  best-made o o′ w w′ k e f g = record {
-    written = e ∙ best-length s (choiceOf inside) a marks-count;
-    workspace = g;
-    output = record { choice = choiceOf inside; valid = marks-valid; best = marks-count; plate = f };
-  }
+  pub inside-listed : take (r .«inside_count» - 0) (r .inside) ≡ insideBelow (b .choice) (pointCount s)
+  inside-listed =
+      let z : r .«inside_count» - 0 ≡ length (insideBelow (b .choice) (pointCount s)) = omega (arith, b .inside-count) in
+      rw (z, b .inside) (padded-take (insideBelow (b .choice) (pointCount s)))
+
+  pub outside-listed : take (r .«outside_count» - 0) (r .outside) ≡ outside (pointsOf s) (b .choice)
+  outside-listed =
+      let z : r .«outside_count» - 0 ≡ length (outside (pointsOf s) (b .choice)) = omega (arith, b .outside-count) in
+      rw (z, b .outside-points) (padded-take (outside (pointsOf s) (b .choice)))
+
+  -- they have n positions together
+  pub both-lengths : length (insideBelow (b .choice) (pointCount s)) + length (outside (pointsOf s) (b .choice)) ≡ pointCount s
+  unfolding count weight
+  both-lengths = omega (arith, inside-length (b .choice) (pointCount s), inside-outside s (b .choice))
+
+  -- THE PLATE OF THE TWO LISTS IS A BEST PLATE
+  pub best-written : (o o′ l m : List ℕ) (k : ℕ) → l ≡ insideBelow (b .choice) (pointCount s) → m ≡ outside (pointsOf s) (b .choice) → k ≡ length (plateOfLists s l m) → o′ ≡ plateOfLists s l m ++ drop (length (plateOfLists s l m)) o → (k ≡ bestLength s) × BestOutput s o o′
+  best-written o o′ l m k i e q f =
+      let p : plateOfLists s l m ≡ plateOf s (b .choice) = rw (i, e) (sym (plate-of-lists s (b .choice))) in
+      (q ∙ ap length p ∙ best-length s (b .choice) a (b .best), record { choice = b .choice; valid = b .valid; best = b .best; plate = rw p at f })

@@ -13,8 +13,8 @@ use Rattle.format.specs.Plate.{insideBelow, plateOf}
 use Rattle.format.specs.Accepted.{Accepted, none-sheet}
 use Rattle.format.specs.PlateQuestions.{plateNo, handedBack}
 use Rattle.format.specs.DemandTwoReader.{PlateOfChoice, ReadRight, demand-two-reader}
-use Rattle.plate_maker.specs.Making.{makingNo, bestLength, makeOutcomeOf, BestOutput, Making}
-use Rattle.plate_maker.specs.MakingLaws.{none-making}
+use Rattle.format.specs.MakingQuestions.{makingNo, none-making}
+use Rattle.plate_maker.specs.Making.{bestLength, makeOutcomeOf, BestOutput, Making}
 use Rattle.plate_maker.specs.BestPlate.{best-length}
 use Rattle.plate_maker.specs.declared.MakeAnswer.the-variants.{Made}
 

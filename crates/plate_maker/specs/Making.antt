@@ -4,27 +4,16 @@ use mathlib.Core.Path.{_≡_}
 use mathlib.Core.Bool.{Bool, true, false, cond, not}
 use mathlib.Core.List.{List, _++_}
 use Prim.Native.Nat.{ℕ, _+_, _-_, _*_}
-use lib.Dec.{leb, eqb}
-use lib.ListN.{length, drop, replicate}
+use lib.Dec.{eqb}
+use lib.ListN.{length, drop}
 use Rattle.labeling.specs.Points.{Choice}
 use Rattle.labeling.specs.Marks.{Valid}
 use Rattle.labeling.specs.Best.{count, bestCount}
-use Rattle.format.specs.Sheet.{ask, thenNo, pointCount, pointsOf, sheetNo}
+use Rattle.format.specs.Sheet.{pointCount, pointsOf}
+use Rattle.format.specs.MakingQuestions.{makingNo, workspaceAfter}
 use Rattle.format.specs.Plate.{plateOf}
 use Rattle.plate_maker.specs.declared.MakeAnswer.{MakeAnswer}
 use Rattle.plate_maker.specs.declared.MakeAnswer.the-variants.{Made, Refused}
-
--- "Is the workspace at least 32,768 numbers of 16 bits? 22."
-abbrev pub workspaceNo : ℕ → ℕ
-workspaceNo cells = ask (leb 32768 cells) 22 0
-
--- "Has the output at least 12 + 8n bytes? 21." and then 22: the output has `room` bytes, the workspace `cells` numbers.
-unfoldable pub buffersNo : List ℕ → ℕ → ℕ → ℕ
-buffersNo s room cells = ask (leb (12 + 8 * pointCount s) room) 21 (workspaceNo cells)
-
--- "Making, after the sheet": the first no of a making, 0 if there is none.
-unfoldable pub makingNo : List ℕ → ℕ → ℕ → ℕ
-makingNo s room cells = thenNo (sheetNo s) (buffersNo s room cells)
 
 -- "With i inside and o outside it has 12 + 6n + i + 2o bytes": the length of a best plate, i being the best count.
 unfoldable pub bestLength : List ℕ → ℕ
@@ -45,10 +34,6 @@ makeOutcome (Refused k) = record { refused = true; number = k; written = 0 }
 abbrev pub makeOutcomeOf : List ℕ → ℕ → MakeOutcome
 makeOutcomeOf s k = record { refused = not (eqb k 0); number = k; written = cond (eqb k 0) (bestLength s) 0 }
 
--- "When a plate is made, ... the whole workspace is zero"; on a refusal it stays untouched. The workspace w after a call whose number is k.
-abbrev pub workspaceAfter : ℕ → List ℕ → List ℕ
-workspaceAfter k w = cond (eqb k 0) (replicate (length w) 0) w
-
 -- Made: the output starts with the plate of a valid choice with the best count, and "bytes past its end are
 -- untouched". WHICH BEST CHOICE IT IS STAYS OPEN, because document 01 leaves it open: "Which best choice is returned is open where
 -- several exist."
@@ -62,12 +47,6 @@ pub record BestOutput (s o o′ : List ℕ) : Type 0 where
 abbrev pub OutputAfter : List ℕ → MakeAnswer → List ℕ → List ℕ → Type 0
 OutputAfter s (Made written) o o′ = BestOutput s o o′
 OutputAfter s (Refused k) o o′ = o′ ≡ o
-
--- What making leaves where nothing is refused: the written length r, the output and the workspace.
-pub record BestMade (s o w : List ℕ) (r : ℕ) (o′ w′ : List ℕ) : Type 0 where
-  pub written : r ≡ bestLength s
-  pub workspace : w′ ≡ replicate (length w) 0
-  pub output : BestOutput s o o′
 
 -- THE PROMISE of make, on any sheet s, output o and workspace w: its answer, and what output and workspace hold afterwards.
 pub record Making (s o w : List ℕ) (answer : MakeAnswer) (o′ w′ : List ℕ) : Type 0 where

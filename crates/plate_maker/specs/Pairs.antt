@@ -1,20 +1,20 @@
--- The pairs of the outside section, written one by one; and how many bytes the sections have. Assumes nothing.
+-- The pairs of the outside section, written one by one; and the plate, section by section. Assumes nothing.
 use mathlib.Core.Path.{_≡_, refl, sym, _∙_, ap}
 use mathlib.Core.Bool.{true, false}
 use mathlib.Core.List.{List, [], _∷_, _++_, append-assoc, append-nil}
 use Prim.Native.Nat.{ℕ, zero, suc, _+_, _*_, _≤_, _<_}
-use native.Mathlib.Numerals.{add-one}
+use native.Mathlib.Nat.{zero-add}
 use native.Mathlib.Omega.{arith}
 use lib.Dec.{eqb, ltb}
 use borrow.Author.Tests.{ne-eqb}
-use lib.ListN.{length, set, length-append}
-use Rattle.labeling.specs.Points.{Points, Choice, outsideBelow, nextMargin, placedFrom, placed}
+use lib.ListN.{length, set, drop, length-append}
+use Rattle.labeling.specs.Points.{Points, nextMargin, placedFrom, placed}
 use Rattle.labeling.specs.Tests.{decide}
-use Rattle.labeling.specs.Order.{outside-length}
-use Rattle.format.specs.Plate.{insideBelow, pairs}
-use Rattle.format.specs.PlateLength.{inside-length}
-use Rattle.plate_maker.specs.Written.{written, written-none, written-more}
-use Rattle.plate_maker.specs.Writing.{outsideDown, marginAfter, placedAfter, SoFar}
+use Rattle.format.specs.Sheet.{pointsOf}
+use Rattle.format.specs.Plate.{pairs}
+use Rattle.format.specs.PlateLength.{placed-length, pairs-length}
+use Rattle.optimum.specs.Written.{written, written-none, written-more, written-twice, written-first}
+use Rattle.plate_maker.specs.Writing.{sectionOf, plateOfLists, marginAfter, placedAfter, SoFar}
 
 -- MARGIN COLUMNS
 
@@ -34,40 +34,6 @@ unfolding marginAfter nextMargin
 margin-small P count j k i h =
     decide (eqb count 0) (λ e. rw e (omega arith)) (λ e. rw e
     (decide (ltb (P .row j) (P .row i + P .h)) (λ f. rw f (omega arith)) (λ f. rw f (omega arith))))
-
--- LENGTHS
-
--- every position is inside or outside
-pub both-lengths : (P : Points) (S : Choice) (m : ℕ) → length (insideBelow S m) + length (outsideBelow P S m) ≡ m
-both-lengths P S m = omega (arith, inside-length S m, outside-length P S m)
-
-pub inside-few : (S : Choice) (m : ℕ) → length (insideBelow S m) ≤ m
-unfolding insideBelow
-inside-few S zero = omega arith
-inside-few S (suc m) =
-    let ih : length (insideBelow S m) ≤ m = inside-few S m in
-    decide (S m)
-    (λ e. rw e (omega (arith, length-append (insideBelow S m) (m ∷ []))))
-    (λ e. rw e (omega (arith, length-append (insideBelow S m) [])))
-
-pub down-few : (S : Choice) (position : ℕ → ℕ) (m : ℕ) → length (outsideDown S position m) ≤ m
-unfolding outsideDown
-down-few S position zero = omega arith
-down-few S position (suc m) =
-    let ih : length (outsideDown S position m) ≤ m = down-few S position m in
-    decide (S (position (suc m))) (λ e. rw e (omega arith)) (λ e. rw e (omega arith))
-
--- POSITION BY POSITION
-
-pub inside-more : (S : Choice) (d : List ℕ) (at m count : ℕ) (output : List ℕ) → at + count < length d → S m ≡ true → count ≡ length (insideBelow S m) → output ≡ written d at (insideBelow S m) → (count + 1 ≡ length (insideBelow S (m + 1))) × (set output (at + count) m ≡ written d at (insideBelow S (m + 1)))
-unfolding insideBelow
-inside-more S d at m count output h e q f =
-    let k : at + length (insideBelow S m) < length d = omega arith in
-    rw (add-one m, e) (omega (arith, length-append (insideBelow S m) (m ∷ [])), rw (f, q) (written-more d at (insideBelow S m) m k))
-
-pub inside-same : (S : Choice) (d : List ℕ) (at m count : ℕ) (output : List ℕ) → S m ≡ false → count ≡ length (insideBelow S m) → output ≡ written d at (insideBelow S m) → (count ≡ length (insideBelow S (m + 1))) × (output ≡ written d at (insideBelow S (m + 1)))
-unfolding insideBelow
-inside-same S d at m count output e q f = rw (add-one m, e, append-nil) (q, f)
 
 -- PAIR BY PAIR
 
@@ -102,3 +68,32 @@ unfolding placedAfter pairs
 so-far-whole P whole d at all count j k output f =
     let e : f .done ≡ whole = sym (append-nil (f .done)) ∙ f .rest in
     (f .is ∙ ap (written d at) e, omega (arith, f .total))
+
+-- SECTION BY SECTION
+
+pub section-length : (P : Points) (l : List ℕ) → length (sectionOf P l) ≡ 1 + 2 * length l
+unfolding sectionOf
+section-length P l = omega (arith, pairs-length (placed P l), placed-length P l)
+
+-- how long the plate is
+pub lists-length : (s inside outside : List ℕ) → length (plateOfLists s inside outside) ≡ length s + 2 + length inside + 2 * length outside
+unfolding plateOfLists
+lists-length s inside outside =
+    let I : List ℕ = length inside ∷ inside in
+    let O : List ℕ = sectionOf (pointsOf s) outside in
+    omega (arith, length-append (s ++ I) O, length-append s I, section-length (pointsOf s) outside)
+
+-- THE PLATE, written section by section
+pub plate-written : (s inside outside d : List ℕ) → length s + 2 + length inside + 2 * length outside ≤ length d → written (written (written d 0 s) (length s) (length inside ∷ inside)) (length s + 1 + length inside) (sectionOf (pointsOf s) outside) ≡ plateOfLists s inside outside ++ drop (length (plateOfLists s inside outside)) d
+unfolding plateOfLists
+plate-written s inside outside d h =
+    let I : List ℕ = length inside ∷ inside in
+    let O : List ℕ = sectionOf (pointsOf s) outside in
+    let k = section-length (pointsOf s) outside in
+    let a : length s ≡ 0 + length s = sym (zero-add (length s)) in
+    let b : length s + 1 + length inside ≡ 0 + length (s ++ I) = omega (arith, length-append s I) in
+    ap (λ k. written (written (written d 0 s) k I) (length s + 1 + length inside) O) a
+    ∙ ap (λ l. written l (length s + 1 + length inside) O) (written-twice d 0 s I (omega arith))
+    ∙ ap (λ k. written (written d 0 (s ++ I)) k O) b
+    ∙ written-twice d 0 (s ++ I) O (omega (arith, length-append s I))
+    ∙ written-first d (s ++ I ++ O)

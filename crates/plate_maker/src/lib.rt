@@ -1,21 +1,8 @@
 // The plate maker: a best plate of a sheet.
 ghost use Rattle.plate_maker.specs.Making.{Making};
-use making::make_best;
-use making::making_no;
+use optimum::best_choice;
+use writing::write_best;
 
-mod conflicts;
-mod filling;
-mod height_order;
-mod limits;
-mod making;
-mod numbers;
-mod points;
-mod prepare;
-mod ranks;
-mod recovery;
-mod right_order;
-mod table;
-mod values;
 mod writing;
 
 // What make answers: a plate is made, with its written length; or refused, with the number of the first no.
@@ -28,9 +15,9 @@ pub enum MakeAnswer {
 pub fn make(sheet: &[u8], output: &mut [u8], workspace: &mut [u16]) -> MakeAnswer
     ensures { λ r. ⌜ Making (now (sheet .entry)) (now (output .entry)) (now (workspace .entry)) r (now (output .exit)) (now (workspace .exit)) ⌝ }
 {
-    let no = making_no(sheet, output.len(), workspace.len());
-    if no != 0 {
-        return MakeAnswer::Refused(no);
+    let choice = best_choice(sheet, output.len(), workspace);
+    if choice.number != 0 {
+        return MakeAnswer::Refused(choice.number);
     }
-    MakeAnswer::Made(make_best(sheet, output, workspace))
+    MakeAnswer::Made(write_best(sheet, choice, output))
 }

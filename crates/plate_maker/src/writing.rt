@@ -1,49 +1,22 @@
 // Writing a plate: the sheet's bytes, the inside section and the outside section.
-use crate::points::PointArray;
-use crate::points::point_count;
 ghost use mathlib.Core.Path.{_≡_};
-ghost use Prim.Native.Nat.{ℕ, _+_, _*_, _<_, _≤_};
-ghost use mathlib.Core.List.{_++_};
-ghost use lib.ListN.{length, getD, drop, replicate};
+ghost use Prim.Native.Nat.{_+_, _*_, _<_, _≤_};
+ghost use mathlib.Core.List.{_∷_, _++_};
+ghost use lib.ListN.{length, drop};
 ghost use Rattle.labeling.specs.Points.{nextMargin, placed};
-ghost use Rattle.labeling.specs.Recurrence.{Point, Sorted};
-ghost use Rattle.labeling.specs.Best.{oneEach};
-ghost use Rattle.format.specs.Sheet.{pointCount, pointsOf};
-ghost use Rattle.format.specs.Plate.{insideBelow, insideSection, pairs, plateOf};
-ghost use Rattle.plate_maker.specs.Arrays.{heightsOf, positionAt};
-ghost use Rattle.labeling.specs.Positions.{Arranged};
-ghost use Rattle.plate_maker.specs.Written.{written};
-ghost use Rattle.plate_maker.specs.Writing.{choiceOf, outsidePositions, sectionOf, marginAfter, Writable, Numbered};
-
-// A byte as an index.
-fn number(b: u8) -> usize
-    ensures { λ r. ⌜ (r ≡ b) × (r < 256) ⌝ }
-{
-    b as usize
-}
+ghost use Rattle.format.specs.Sheet.{sheetNo, pointCount, pointsOf};
+ghost use Rattle.format.specs.Plate.{pairs};
+ghost use Rattle.optimum.specs.Choosing.{BestSplit};
+ghost use Rattle.optimum.specs.Written.{written};
+ghost use Rattle.plate_maker.specs.Making.{bestLength, BestOutput};
+ghost use Rattle.plate_maker.specs.Writing.{sectionOf, marginAfter, plateOfLists};
+use optimum::BestChoice;
 
 // A number of 16 bits as a wider one.
 fn wide(x: u16) -> usize
     ensures { λ r. ⌜ (r ≡ x) × (r < 65536) ⌝ }
 {
     x as usize
-}
-
-// The position of the point i in height order.
-fn position_at(heights: &PointArray, i: usize) -> u8
-    requires { ⌜ (i < 34) × (positionAt (now heights) i < 256) ⌝ }
-    ensures { λ r. ⌜ r ≡ positionAt (now (heights .entry)) i ⌝ }
-{
-    heights[480 + i] as u8
-}
-
-// Whether a position is inside.
-fn is_inside(inside: &[u8; 32], position: u8) -> bool
-    requires { ⌜ position < 32 ⌝ }
-    ensures { λ r. ⌜ r ≡ choiceOf (now (inside .entry)) position ⌝ }
-{
-    let p = number(position);
-    inside[p] == 1
 }
 
 // The margin column of the outside position that comes next after the position `previous` in the margin column `margin`.
@@ -72,137 +45,81 @@ fn margin_after(sheet: &[u8], count: usize, previous: u8, margin: u8, position: 
     next_margin(sheet, previous, margin, position)
 }
 
-// Copies the sheet to the start of the output.
-fn copy_sheet(sheet: &[u8], output: &mut [u8])
-    requires { ⌜ length (now sheet) ≤ length (now output) ⌝ }
-    ensures { λ _. ⌜ now (output .exit) ≡ written (now (output .entry)) 0 (now (sheet .entry)) ⌝ }
+// Copies bytes into the output, from the place `at` on.
+fn copy_to(bytes: &[u8], output: &mut [u8], at: usize)
+    requires { ⌜ at + length (now bytes) ≤ length (now output) ⌝ }
+    ensures { λ _. ⌜ now (output .exit) ≡ written (now (output .entry)) at (now (bytes .entry)) ⌝ }
 {
     let mut i = 0;
-    while i < sheet.len() {
-        output[i] = sheet[i];
+    while i < bytes.len() {
+        output[at + i] = bytes[i];
         i += 1;
     }
 }
 
-// Writes the inside positions below n, ascending, from the place `at` on, and gives their number.
-fn write_positions(inside: &[u8; 32], n: u8, output: &mut [u8], at: usize) -> usize
-    requires { ⌜ (n ≤ 32) × (at + n ≤ length (now output)) ⌝ }
-    ensures { λ r. ⌜ (r ≡ length (insideBelow (choiceOf (now (inside .entry))) n)) × (now (output .exit) ≡ written (now (output .entry)) at (insideBelow (choiceOf (now (inside .entry))) n)) ⌝ }
+// Writes the inside section of a list of positions from the place `at` on, and gives the place after it.
+fn write_inside(list: &[u8], output: &mut [u8], at: usize) -> usize
+    requires { ⌜ (length (now list) ≤ 32) × (at + 1 + length (now list) ≤ length (now output)) ⌝ }
+    ensures { λ r. ⌜ (r ≡ at + 1 + length (now (list .entry))) × (now (output .exit) ≡ written (now (output .entry)) at (length (now (list .entry)) ∷ now (list .entry))) ⌝ }
 {
-    let mut count: usize = 0;
-    let mut next: u8 = 0;
-    while next < n {
-        let position = next;
-        next += 1;
-        if is_inside(inside, position) {
-            output[at + count] = position;
-            count += 1;
-        }
-    }
-    count
-}
-
-// Writes the inside section from the place `at` on, and gives the place after it.
-fn write_inside(sheet: &[u8], inside: &[u8; 32], output: &mut [u8], at: usize) -> usize
-    requires { ⌜ (pointCount (now sheet) ≤ 32) × (at + 1 + pointCount (now sheet) ≤ length (now output)) ⌝ }
-    ensures { λ r. ⌜ (r ≡ at + length (insideSection (now (sheet .entry)) (choiceOf (now (inside .entry))))) × (now (output .exit) ≡ written (now (output .entry)) at (insideSection (now (sheet .entry)) (choiceOf (now (inside .entry))))) ⌝ }
-{
-    let count = write_positions(inside, format::point_count(sheet), output, at + 1);
+    let count = list.len();
+    copy_to(list, output, at + 1);
     output[at] = count as u8;
     at + 1 + count
 }
 
-// Writes the outside positions with their margin columns from the place `at` on, and gives their number.
-fn write_pairs(
-    sheet: &[u8],
-    heights: &PointArray,
-    inside: &[u8; 32],
-    output: &mut [u8],
-    at: usize,
-) -> usize
-    requires { ⌜ Numbered (now heights) × (at + 2 * length (outsidePositions (now heights) (now inside)) ≤ length (now output)) ⌝ }
-    ensures { λ r. ⌜ (r ≡ length (outsidePositions (now (heights .entry)) (now (inside .entry)))) × (now (output .exit) ≡ written (now (output .entry)) at (pairs (placed (pointsOf (now (sheet .entry))) (outsidePositions (now (heights .entry)) (now (inside .entry)))))) ⌝ }
+// Writes the positions of a list with their margin columns from the place `at` on.
+fn write_pairs(sheet: &[u8], list: &[u8], output: &mut [u8], at: usize)
+    requires { ⌜ (length (now list) ≤ 32) × (at + 2 * length (now list) ≤ length (now output)) ⌝ }
+    ensures { λ _. ⌜ now (output .exit) ≡ written (now (output .entry)) at (pairs (placed (pointsOf (now (sheet .entry))) (now (list .entry)))) ⌝ }
 {
-    let mut count: usize = 0;
     let mut previous: u8 = 0;
     let mut margin: u8 = 0;
-    let mut i = point_count(heights);
-    while 0 < i {
-        let position = position_at(heights, i);
-        i -= 1;
-        if !is_inside(inside, position) {
-            margin = margin_after(sheet, count, previous, margin, position);
-            output[at + 2 * count] = position;
-            output[at + 2 * count + 1] = margin;
-            previous = position;
-            count += 1;
-        }
+    let mut count: usize = 0;
+    while count < list.len() {
+        let position = list[count];
+        margin = margin_after(sheet, count, previous, margin, position);
+        output[at + 2 * count] = position;
+        output[at + 2 * count + 1] = margin;
+        previous = position;
+        count += 1;
     }
-    count
 }
 
-// Writes the outside section from the place `at` on, and gives the place after it.
-fn write_outside(
-    sheet: &[u8],
-    heights: &PointArray,
-    inside: &[u8; 32],
-    output: &mut [u8],
-    at: usize,
-) -> usize
-    requires { ⌜ Numbered (now heights) × (at + 1 + 2 * length (outsidePositions (now heights) (now inside)) ≤ length (now output)) ⌝ }
-    ensures { λ r. ⌜ (r ≡ at + length (sectionOf (pointsOf (now (sheet .entry))) (outsidePositions (now (heights .entry)) (now (inside .entry))))) × (now (output .exit) ≡ written (now (output .entry)) at (sectionOf (pointsOf (now (sheet .entry))) (outsidePositions (now (heights .entry)) (now (inside .entry))))) ⌝ }
+// Writes the outside section of a list of positions, from the highest row down, from the place `at` on, and gives the place after it.
+fn write_outside(sheet: &[u8], list: &[u8], output: &mut [u8], at: usize) -> usize
+    requires { ⌜ (length (now list) ≤ 32) × (at + 1 + 2 * length (now list) ≤ length (now output)) ⌝ }
+    ensures { λ r. ⌜ (r ≡ at + 1 + 2 * length (now (list .entry))) × (now (output .exit) ≡ written (now (output .entry)) at (sectionOf (pointsOf (now (sheet .entry))) (now (list .entry)))) ⌝ }
 {
-    let count = write_pairs(sheet, heights, inside, output, at + 1);
+    let count = list.len();
+    write_pairs(sheet, list, output, at + 1);
     output[at] = count as u8;
     at + 1 + 2 * count
 }
 
-// Writes the plate of the sheet and of the choice that `inside` marks by position (1 is inside) at the start of the output, and gives
-// its length. `heights` has the sheet's points in height order.
-pub(crate) fn write_plate(
-    sheet: &[u8],
-    heights: &PointArray,
-    inside: &[u8; 32],
-    output: &mut [u8],
-) -> usize
-    requires { ⌜ Writable (now sheet) (choiceOf (now inside)) × Arranged (pointsOf (now sheet)) oneEach (heightsOf (now heights)) (positionAt (now heights)) × Sorted (heightsOf (now heights)) × (12 + 8 * pointCount (now sheet) ≤ length (now output)) ⌝ }
-    ensures { λ r. ⌜ (r ≡ length (plateOf (now (sheet .entry)) (choiceOf (now (inside .entry))))) × (now (output .exit) ≡ plateOf (now (sheet .entry)) (choiceOf (now (inside .entry))) ++ drop (length (plateOf (now (sheet .entry)) (choiceOf (now (inside .entry))))) (now (output .entry))) ⌝ }
+// Writes the plate of the sheet with these inside and outside positions at the start of the output, and gives its length.
+fn write_plate(sheet: &[u8], inside: &[u8], outside: &[u8], output: &mut [u8]) -> usize
+    requires { ⌜ (length (now inside) ≤ 32) × (length (now outside) ≤ 32) × (length (now sheet) + 2 + length (now inside) + 2 * length (now outside) ≤ length (now output)) ⌝ }
+    ensures { λ r. ⌜ (r ≡ length (plateOfLists (now (sheet .entry)) (now (inside .entry)) (now (outside .entry)))) × (now (output .exit) ≡ plateOfLists (now (sheet .entry)) (now (inside .entry)) (now (outside .entry)) ++ drop (length (plateOfLists (now (sheet .entry)) (now (inside .entry)) (now (outside .entry)))) (now (output .entry))) ⌝ }
 {
-    copy_sheet(sheet, output);
-    let at = write_inside(sheet, inside, output, sheet.len());
-    write_outside(sheet, heights, inside, output, at)
+    copy_to(sheet, output, 0);
+    let at = write_inside(inside, output, sheet.len());
+    write_outside(sheet, outside, output, at)
 }
 
-// Marks by position in which nothing is inside.
-fn none_inside() -> [u8; 32]
-    ensures { λ r. ⌜ r ≡ replicate 32 0 ⌝ }
+// Writes the plate of an accepted sheet and a best choice at the start of the output, and gives its length.
+pub(crate) fn write_best(sheet: &[u8], choice: BestChoice, output: &mut [u8]) -> usize
+    requires { ⌜ (sheetNo (now sheet) ≡ 0) × BestSplit (now sheet) choice × (12 + 8 * pointCount (now sheet) ≤ length (now output)) ⌝ }
+    ensures { λ r. ⌜ (r ≡ bestLength (now (sheet .entry))) × BestOutput (now (sheet .entry)) (now (output .entry)) (now (output .exit)) ⌝ }
 {
-    [0u8; 32]
-}
-
-// From marks by height order to marks by position: mark i is that of the point i in height order.
-pub(crate) fn inside_by_position(heights: &PointArray, mark: &[u8; 34]) -> [u8; 32]
-    requires { ⌜ Numbered (now heights) ⌝ }
-    ensures { λ r. ⌜ ((i : ℕ) → Point (heightsOf (now (heights .entry))) i → getD r (positionAt (now (heights .entry)) i) 0 ≡ getD (now (mark .entry)) i 0) ⌝ }
-{
-    let mut inside = none_inside();
-    let n = point_count(heights);
-    let mut i = 0;
-    while i < n {
-        i += 1;
-        let position = number(position_at(heights, i));
-        inside[position] = mark[i];
-    }
-    inside
-}
-
-// Every number becomes 0.
-pub(crate) fn clear(workspace: &mut [u16])
-    ensures { λ _. ⌜ now (workspace .exit) ≡ replicate (length (now (workspace .entry))) 0 ⌝ }
-{
-    let mut i = 0;
-    while i < workspace.len() {
-        workspace[i] = 0;
-        i += 1;
-    }
+    let inside = choice.inside;
+    let inside_count = choice.inside_count as usize;
+    let outside = choice.outside;
+    let outside_count = choice.outside_count as usize;
+    write_plate(
+        sheet,
+        &inside[0..inside_count],
+        &outside[0..outside_count],
+        output,
+    )
 }

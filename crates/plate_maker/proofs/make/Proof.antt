@@ -1,28 +1,51 @@
+-- `plate_maker::make` meets its contract. Assumes nothing.
 use borrow.Author.Needs.{needs}
 use mathlib.Core.Path.{sym, _∙_}
+use native.Mathlib.Omega.{arith}
+use Rattle.format.specs.Accepted.{none-sheet}
+use Rattle.format.specs.MakingQuestions.{none-making}
 use Rattle.plate_maker.specs.MakingLaws.{refused-making, made-making}
 use Rattle.plate_maker.proofs.make.Statement.{statement}
 use Rattle.plate_maker.proofs.make.Tie as tie
 
-making-no-requires : tie.Need-making-no-requires
-making-no-requires c κs = search needs
-
-returns : tie.Need-returns
-returns c = refused-making _ _ _ _ (c .before .making-no .ensures) (c .if1 .taken)
-
-make-best-requires : tie.Need-make-best-requires
-make-best-requires c κs = sym (c .before .before .before .making-no .ensures) ∙ c .before .before .if1 .left
+best-choice-requires : tie.Need-best-choice-requires
+best-choice-requires c κs = search needs
 
 same-length : tie.Need-same-length
 same-length c = search needs
 
+returns : tie.Need-returns
+returns c =
+    let choice = c .before .before .before .before .best-choice .ensures in
+    refused-making _ _ _ _ _ (choice .number) (c .if1 .taken) (choice .workspace)
+
+write-best-requires : tie.Need-write-best-requires
+write-best-requires c κs =
+    let choice = c .before .before .before .before .before .best-choice .ensures in
+    let none = c .before .if1 .left in
+    let f = none-making _ _ _ .is (sym (choice .number) ∙ none) in
+    (none-sheet _ .of (f .0), choice .chosen none, f .1 .0)
+
 same-length-2 : tie.Need-same-length-2
 same-length-2 c = search needs
 
+same-length-3 : tie.Need-same-length-3
+same-length-3 c = search needs
+
 returns-2 : tie.Need-returns-2
-returns-2 c = made-making _ _ _ _ _ _ (sym (c .before .before .before .before .before .before .before .before .making-no .ensures) ∙ c .before .before .before .before .before .before .before .if1 .left) (c .before .before .before .before .make-best .ensures)
+returns-2 c =
+    let choice = c .before .before .before .before .before .before .before .before .best-choice .ensures in
+    let best = c .before .before .write-best .ensures in
+    made-making _ _ _ _ _ _ _ (choice .number) (c .before .before .before .before .if1 .left) (choice .workspace) (best .0) (best .1)
 
 pub make-spec : {M : Type 1} → statement M
 make-spec =
     tie.close
-    (tie.spec making-no-requires returns make-best-requires same-length same-length-2 returns-2)
+    (tie.spec
+    best-choice-requires
+    same-length
+    returns
+    write-best-requires
+    same-length-2
+    same-length-3
+    returns-2)

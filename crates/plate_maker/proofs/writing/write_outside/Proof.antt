@@ -1,18 +1,13 @@
 -- `plate_maker::writing::write_outside` meets its contract: the pairs, and then their count before them. Assumes nothing.
-use mathlib.Core.List.{List}
-use mathlib.Core.Path.{_≡_}
-use Prim.Native.Nat.{ℕ, _+_}
+use borrow.Author.Needs.{needs}
+use mathlib.Core.Path.{refl}
 use lib.ListN.{length}
 use native.Mathlib.Omega.{arith}
-use Rattle.labeling.specs.Points.{Points, placed}
+use Rattle.labeling.specs.Points.{placed}
 use Rattle.format.specs.Sheet.{pointsOf}
 use Rattle.format.specs.Plate.{pairs}
-use Rattle.plate_maker.specs.Arrays.{heightsOf, positionAt}
-use Rattle.plate_maker.specs.Written.{written, written-front}
-use Rattle.plate_maker.specs.Writing.{choiceOf, outsidePositions, sectionOf}
-use Rattle.plate_maker.specs.Pairs.{down-few}
-use Rattle.plate_maker.specs.Sections.{section-length}
-use borrow.Author.Needs.{needs}
+use Rattle.optimum.specs.Written.{written-front}
+use Rattle.plate_maker.specs.Writing.{sectionOf}
 use Rattle.plate_maker.proofs.writing.write_outside.Statement.{statement}
 use Rattle.plate_maker.proofs.writing.write_outside.Tie as tie
 
@@ -23,10 +18,7 @@ write-pairs-requires : tie.Need-write-pairs-requires
 write-pairs-requires c κs = search needs
 
 cast-output : tie.Need-cast-output
-cast-output c =
-    let a = c .before .before .before .before .before .before .args in
-    let h = a .heights .now in
-    omega (arith, c .before .before .write-pairs .ensures .0, down-few (choiceOf (a .inside .now)) (positionAt h) (heightsOf h .n), c .before .before .before .before .before .before .pre .0 .few)
+cast-output c = search needs
 
 slice-write-output : tie.Need-slice-write-output
 slice-write-output c = search needs
@@ -46,12 +38,8 @@ same-length c = search needs
 returns : tie.Need-returns
 unfolding sectionOf
 returns c =
-    let a = c .before .before .before .before .before .before .args in
-    let P : Points = pointsOf (a .sheet .now) in
-    let l : List ℕ = outsidePositions (a .heights .now) (a .inside .now) in
-    let k : c .before .before .write-pairs .result ≡ length l = c .before .before .write-pairs .ensures .0 in
-    let w : c .before .before .write-pairs .last .1 .1 .1 .0 ≡ written (a .output .now) (a .at + 1) (pairs (placed P l)) = c .before .before .write-pairs .ensures .1 in
-    (omega (arith, section-length P l), rw (w, k) (written-front (a .output .now) (a .at) (pairs (placed P l)) (length l) (omega arith)))
+    let a = c .before .before .before .before .before .before .before .args in
+    (refl, rw (c .before .before .write-pairs .ensures) (written-front (a .output .now) (a .at) (pairs (placed (pointsOf (a .sheet .now)) (a .list .now))) (length (a .list .now)) (omega arith)))
 
 pub write-outside-spec : {M : Type 1} → statement M
 write-outside-spec =

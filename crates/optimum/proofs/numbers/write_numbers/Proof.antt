@@ -1,0 +1,45 @@
+-- `optimum::numbers::write_numbers` meets its contract: each call leaves the cells of the others as they are. Assumes nothing.
+use mathlib.Core.Path.{_≡_, _∙_, ap}
+use lib.ListN.{length}
+use Rattle.optimum.specs.Numbers.{blankOf, counted, blank-long, counted-long, numbers-made}
+use borrow.Author.Needs.{needs}
+use Rattle.optimum.proofs.numbers.write_numbers.Statement.{statement}
+use Rattle.optimum.proofs.numbers.write_numbers.Tie as tie
+
+write-counts-requires : tie.Need-write-counts-requires
+write-counts-requires c κs = search needs
+
+-- After the first call.
+first : (c : tie.After-write-counts) → c .write-counts .last .1 .0 ≡ counted (c .before .before .before .args .sheet .now) blankOf
+first c = c .write-counts .ensures ∙ ap (counted (c .before .before .before .args .sheet .now)) (c .before .before .before .pre)
+
+first-long : (c : tie.After-write-counts) → length (c .write-counts .last .1 .0) ≡ 517
+first-long c = rw (first c) (counted-long (c .before .before .before .args .sheet .now) blankOf blank-long)
+
+write-triangular-requires : tie.Need-write-triangular-requires
+write-triangular-requires c κs = first-long (c .before)
+
+write-tetrahedral-requires : tie.Need-write-tetrahedral-requires
+write-tetrahedral-requires c κs = (c .before .write-triangular .ensures .long ∙ first-long (c .before .before .before), c .before .write-triangular .ensures .here)
+
+write-weights-requires : tie.Need-write-weights-requires
+write-weights-requires c κs = c .before .write-tetrahedral .ensures .long ∙ (c .before .before .before .write-triangular .ensures .long ∙ first-long (c .before .before .before .before .before))
+
+write-allowed-requires : tie.Need-write-allowed-requires
+write-allowed-requires c κs = c .before .write-weights .ensures .long ∙ (c .before .before .before .write-tetrahedral .ensures .long ∙ (c .before .before .before .before .before .write-triangular .ensures .long ∙ first-long (c .before .before .before .before .before .before .before)))
+
+returns : tie.Need-returns
+returns c =
+    numbers-made _ _ _ _ _ _ (first (c .before .before .before .before .before .before .before .before)) (c .before .before .before .before .before .before .write-triangular .ensures)
+    (c .before .before .before .before .write-tetrahedral .ensures) (c .before .before .write-weights .ensures) (c .write-allowed .ensures)
+
+pub write-numbers-spec : {M : Type 1} → statement M
+write-numbers-spec =
+    tie.close
+    (tie.spec
+    write-counts-requires
+    write-triangular-requires
+    write-tetrahedral-requires
+    write-weights-requires
+    write-allowed-requires
+    returns)

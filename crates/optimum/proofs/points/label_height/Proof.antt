@@ -1,0 +1,15 @@
+-- `optimum::points::label_height` meets its contract: the cell is the one that `heightsOf` reads. Assumes nothing.
+use borrow.Author.Needs.{needs}
+use Rattle.optimum.specs.Arrays.{heightsOf}
+use Rattle.optimum.proofs.points.label_height.Statement.{statement}
+use Rattle.optimum.proofs.points.label_height.Tie as tie
+
+cell-requires : tie.Need-cell-requires
+cell-requires c κs = search needs
+
+returns : tie.Need-returns
+unfolding heightsOf
+returns c = search needs
+
+pub label-height-spec : {M : Type 1} → statement M
+label-height-spec = tie.close (tie.spec cell-requires returns)

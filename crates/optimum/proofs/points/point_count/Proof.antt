@@ -1,0 +1,15 @@
+-- `optimum::points::point_count` meets its contract: the cell is the one that `heightsOf` reads. Assumes nothing.
+use borrow.Author.Needs.{needs}
+use Rattle.optimum.specs.Arrays.{heightsOf}
+use Rattle.optimum.proofs.points.point_count.Statement.{statement}
+use Rattle.optimum.proofs.points.point_count.Tie as tie
+
+cell-requires : tie.Need-cell-requires
+cell-requires c κs = search needs
+
+returns : tie.Need-returns
+unfolding heightsOf
+returns c = search needs
+
+pub point-count-spec : {M : Type 1} → statement M
+point-count-spec = tie.close (tie.spec cell-requires returns)

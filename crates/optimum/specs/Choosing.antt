@@ -1,0 +1,46 @@
+-- What best_choice answers and leaves. Assumes nothing.
+use mathlib.Core.Path.{_≡_}
+use mathlib.Core.List.{List, _++_}
+use Prim.Native.Nat.{ℕ, _-_}
+use lib.ListN.{length, replicate}
+use Rattle.labeling.specs.Points.{Choice, outside}
+use Rattle.labeling.specs.Marks.{Valid}
+use Rattle.labeling.specs.Best.{count, bestCount}
+use Rattle.format.specs.Sheet.{pointCount, pointsOf}
+use Rattle.format.specs.Plate.{insideBelow}
+use Rattle.format.specs.MakingQuestions.{makingNo, workspaceAfter}
+use Rattle.optimum.specs.declared.BestChoice.{BestChoice}
+
+-- The 32 cells of a list of positions: the positions, and 0 past them.
+unfoldable pub padded : List ℕ → List ℕ
+padded l = l ++ replicate (32 - length l) 0
+
+-- The two lists of a valid choice with the best count: "one byte for each inside position, ascending", and the outside points "from the
+-- highest row down". WHICH BEST CHOICE IT IS STAYS OPEN, because document 01 leaves it open: "Which best choice is returned is open
+-- where several exist."
+pub record BestSplit (s : List ℕ) (r : BestChoice) : Type 0 where
+  pub choice : Choice
+  pub valid : Valid (pointsOf s) choice
+  pub best : count (pointsOf s) choice ≡ bestCount (pointsOf s)
+  pub inside : r .inside ≡ padded (insideBelow choice (pointCount s))
+  pub inside-count : r .«inside_count» ≡ length (insideBelow choice (pointCount s))
+  pub outside-points : r .outside ≡ padded (outside (pointsOf s) choice)
+  pub outside-count : r .«outside_count» ≡ length (outside (pointsOf s) choice)
+
+-- Refused with the number k: no lists.
+abbrev pub nothingChosen : ℕ → BestChoice
+nothingChosen k = record {
+  number = k;
+  inside = replicate 32 0;
+  «inside_count» = 0;
+  outside = replicate 32 0;
+  «outside_count» = 0;
+}
+
+-- THE PROMISE of best_choice, on any sheet s, an output of `room` bytes and any workspace w: the number of the first no of making; the
+-- workspace; and the lists.
+pub record Choosing (s : List ℕ) (room : ℕ) (w : List ℕ) (r : BestChoice) (w′ : List ℕ) : Type 0 where
+  pub number : r .number ≡ makingNo s room (length w)
+  pub workspace : w′ ≡ workspaceAfter (r .number) w
+  pub chosen : r .number ≡ 0 → BestSplit s r
+  pub refused : (r .number ≡ 0 → ⊥) → r ≡ nothingChosen (r .number)

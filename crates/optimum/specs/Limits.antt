@@ -1,0 +1,313 @@
+-- Low, high and top: how loops find them, and that writing them leaves the points as they are. Assumes nothing.
+use mathlib.Core.Path.{_≡_, refl, sym, _∙_, ap}
+use mathlib.Core.Bool.{Bool, true, false, _&&_}
+use mathlib.Core.List.{List}
+use Prim.Native.Nat.{ℕ, suc, _+_, _-_, _*_, _≤_, _<_}
+use native.Mathlib.Omega.{arith}
+use lib.Dec.{ltb, leb, eqb}
+use lib.ListN.{length, getD}
+use borrow.Author.Tests.{leb-true, leb-false}
+use Rattle.labeling.specs.Tests.{same, clash, Decides, dec-and, dec-le, dec-lt}
+use Rattle.labeling.specs.Recurrence.{Heights, Point, Sorted, Overlap, reachesOver, greatest}
+use Rattle.labeling.specs.RecurrenceTests.{less, dec-unique, dec-map, Reaches, dec-reaches}
+use Rattle.labeling.specs.Comparisons.{least, Passes, greatest-unique, least-unique, overlapsBelow, overlapsAbove, lowOf, highOf, topOf, dec-low, dec-high}
+use Rattle.optimum.specs.Arrays.{weightAt, heightsOf, positionAt}
+use Rattle.optimum.specs.SameHeights.{SameHeights, greatest-same, sorted-same, high-same, top-same}
+use Rattle.optimum.specs.Cells.{Written}
+
+-- DOWN TO THE GREATEST, UP TO THE LEAST
+
+-- None that passes is more than j.
+pub record AtMost (f : ℕ → Bool) (m j : ℕ) : Type 0 where
+  pub most : (k : ℕ) → Passes f m k → k ≤ j
+
+-- None that passes is less than j.
+pub record AtLeast (f : ℕ → Bool) (m j : ℕ) : Type 0 where
+  pub least : (k : ℕ) → Passes f m k → j ≤ k
+
+module _ {f : ℕ → Bool} {m : ℕ} where
+  pub greatest-found : {j : ℕ} → AtMost f m j → 1 ≤ j → j ≤ m → f j ≡ true → j ≡ greatest f m
+  greatest-found {j} a l u e = sym (greatest-unique f m j (λ z. record { low = l; high = u; passes = e }) (a .most))
+
+  pub greatest-none : AtMost f m 0 → 0 ≡ greatest f m
+  greatest-none a = sym (greatest-unique f m 0 (λ z. absurd (omega arith)) (a .most))
+
+  pub greatest-next : {j : ℕ} → AtMost f m j → f j ≡ false → AtMost f m (j - 1)
+  greatest-next {j} a e = record { most = λ k p. same k j (λ z. absurd (clash (p .passes) (rw z e))) (λ ne. omega (arith, a .most k p)) }
+
+  pub least-found : {j : ℕ} → AtLeast f m j → 1 ≤ j → j ≤ m → f j ≡ true → j ≡ least f (suc m) m
+  least-found {j} a l u e = sym (least-unique f (suc m) m j (omega arith) (omega arith) (λ z. record { low = l; high = u; passes = e }) (a .least))
+
+  pub least-none : {j : ℕ} → AtLeast f m j → m < j → suc m ≡ least f (suc m) m
+  least-none {j} a l =
+      sym (least-unique f (suc m) m (suc m) (omega arith) (omega arith) (λ z. absurd (z refl)) (λ k p. omega (arith, a .least k p, p .high)))
+
+  pub least-next : {j : ℕ} → AtLeast f m j → f j ≡ false → AtLeast f m (j + 1)
+  least-next {j} a e = record { least = λ k p. same k j (λ z. absurd (clash (p .passes) (rw z e))) (λ ne. omega (arith, a .least k p)) }
+
+-- WHERE TO LOOK
+
+-- The label of i ends below the row of j.
+unfoldable pub labelBelow : Heights → ℕ → ℕ → Bool
+labelBelow H i j = leb (H .row i + H .h) (H .row j)
+
+-- The column of j is one of those from `from` on, and below `to`.
+unfoldable pub columnWithin : Heights → ℕ → ℕ → ℕ → Bool
+columnWithin H j from to = leb from (H .column j) && ltb (H .column j) to
+
+dec-within : (H : Heights) (j from to : ℕ) → Decides (columnWithin H j from to) ((from ≤ H .column j) × (H .column j < to))
+unfolding columnWithin
+dec-within H j from to = dec-and (dec-le from (H .column j)) (dec-lt (H .column j) to)
+
+module _ {H : Heights} (L : Sorted H) where
+  -- Rows rise with height.
+  rise : (i j : ℕ) → Point H i → Point H j → i ≤ j → H .row i ≤ H .row j
+  rise i j p q z = same i j (λ e. rw e (omega arith)) (λ ne. L .rows i j p q (omega arith))
+
+  -- Two points have two ranks.
+  ranks-apart : (i j : ℕ) → Point H i → Point H j → (i ≡ j → ⊥) → H .rank i ≡ H .rank j → ⊥
+  ranks-apart i j p q ne e = ne (sym (L .atRank-rank i p) ∙ (ap (H .atRank) e ∙ L .atRank-rank j q))
+
+  module _ (i : ℕ) (p : Point H i) where
+    -- LOW IS TOP: a point below i that is right of i overlaps it exactly if its label reaches over i.
+    low-top : lowOf H i ≡ topOf H i
+    unfolding lowOf topOf
+    low-top =
+        greatest-same (overlapsBelow H i) (reachesOver H i) (H .n)
+        (λ j l u. dec-unique (dec-low H i j) (dec-map (back j l u) (there j l u) (dec-reaches H i j)))
+      where
+        there : (j : ℕ) → 1 ≤ j → j ≤ H .n → (j < i) × ((H .rank i < H .rank j) × Overlap H i j) → Reaches H i j
+        there j l u x =
+            let q : Point H j = record { low = l; high = u } in
+            record { low = l; high = x .0; over = x .1 .1 .below; right = L .ties i j p q (x .1 .0) (x .0); near = x .1 .1 .right }
+
+        back : (j : ℕ) → 1 ≤ j → j ≤ H .n → Reaches H i j → (j < i) × ((H .rank i < H .rank j) × Overlap H i j)
+        back j l u x =
+            let q : Point H j = record { low = l; high = u } in
+            let r = x .right in
+            let v = x .high in
+            let ne = ranks-apart i j p q (λ e. omega arith) in
+            let k : H .rank i < H .rank j = less (H .rank i) (H .rank j) (λ a. a) (λ a. absurd (omega (arith, L .columns j i q p (omega arith)))) in
+            let y = L .rows j i q p v in
+            (v, (k, record { left = omega arith; right = x .near; below = x .over; above = omega (arith, L .h-pos) }))
+
+    -- What the loops for the point i know at j: below i for top, above i for high.
+    module _ {j : ℕ} where
+      module _ (l : 1 ≤ j) (u : j < i) (a : AtMost (reachesOver H i) (H .n) j) where
+        here-below : Point H j
+        here-below = record { low = l; high = omega (arith, p .high) }
+
+        -- None further down reaches over i.
+        pub top-ends : labelBelow H j i ≡ true → 0 ≡ topOf H i
+        unfolding topOf labelBelow
+        top-ends e =
+            let b : H .row j + H .h ≤ H .row i = leb-true (H .row j + H .h) (H .row i) e in
+            greatest-none (record {
+              most = λ k x.
+                  let o = dec-reaches H i k .is (x .passes) in
+                  absurd (omega (arith, o .over, rise k j (record { low = x .low; high = x .high }) here-below (a .most k x)));
+            })
+
+        -- The columns decide.
+        module _ (b : labelBelow H j i ≡ false) {from to : ℕ} (f : from ≡ H .column i + 1) (t : to ≡ H .column i + H .w) where
+          top-test : reachesOver H i j ≡ columnWithin H j from to
+          unfolding labelBelow
+          top-test =
+              let c : H .row i < H .row j + H .h = leb-false (H .row j + H .h) (H .row i) b in
+              dec-unique (dec-reaches H i j)
+              (dec-map
+              (λ x. let y = x .0 in let z = x .1 in record { low = l; high = u; over = c; right = omega arith; near = omega arith })
+              (λ x. (omega (arith, x .right), omega (arith, x .near)))
+              (dec-within H j from to))
+
+          pub top-found : columnWithin H j from to ≡ true → j ≡ topOf H i
+          unfolding topOf
+          top-found e = greatest-found a l (here-below .high) (top-test ∙ e)
+
+          pub top-next : columnWithin H j from to ≡ false → AtMost (reachesOver H i) (H .n) (j - 1)
+          top-next e = greatest-next a (top-test ∙ e)
+
+      module _ (l : i < j) (u : j ≤ H .n) (a : AtLeast (overlapsAbove H i) (H .n) j) where
+        here-above : Point H j
+        here-above = record { low = omega arith; high = u }
+
+        -- None further up overlaps i.
+        pub high-ends : labelBelow H i j ≡ true → suc (H .n) ≡ highOf H i
+        unfolding highOf labelBelow
+        high-ends e =
+            let b : H .row i + H .h ≤ H .row j = leb-true (H .row i + H .h) (H .row j) e in
+            least-none {j = suc (H .n)} (record {
+              least = λ k x.
+                  let o = dec-high H i k .is (x .passes) .1 .1 in
+                  absurd (omega (arith, o .above, rise j k here-above (record { low = x .low; high = x .high }) (a .least k x)));
+            }) (omega arith)
+
+        -- The columns decide.
+        module _ (b : labelBelow H i j ≡ false) {from to : ℕ} (f : from ≡ H .column i) (t : to ≡ H .column i + H .w) where
+          high-test : overlapsAbove H i j ≡ columnWithin H j from to
+          unfolding labelBelow
+          high-test =
+              let c : H .row j < H .row i + H .h = leb-false (H .row i + H .h) (H .row j) b in
+              let y = L .rows i j p here-above l in
+              let ne = ranks-apart i j p here-above (λ e. omega arith) in
+              dec-unique (dec-high H i j)
+              (dec-map
+              (λ x.
+              let v = x .0 in
+              let z = x .1 in (
+                l,
+                (
+                  less (H .rank i) (H .rank j) (λ k. k) (λ k. absurd (omega (arith, L .ties j i here-above p (omega arith) l))),
+                  record { left = omega (arith, L .w-pos); right = omega arith; below = omega (arith, L .h-pos); above = c },
+                ),
+              ))
+              (λ x. (omega (arith, L .columns i j p here-above (x .1 .0)), omega (arith, x .1 .1 .right)))
+              (dec-within H j from to))
+
+          pub high-found : columnWithin H j from to ≡ true → j ≡ highOf H i
+          unfolding highOf
+          high-found e = least-found a (here-above .low) u (high-test ∙ e)
+
+          pub high-next : columnWithin H j from to ≡ false → AtLeast (overlapsAbove H i) (H .n) (j + 1)
+          high-next e = least-next a (high-test ∙ e)
+
+-- At the start and at the end of a loop.
+pub top-start : (H : Heights) (i : ℕ) → AtMost (reachesOver H i) (H .n) (i - 1)
+top-start H i = record { most = λ k p. omega (arith, dec-reaches H i k .is (p .passes) .high) }
+
+pub top-none : (H : Heights) (i : ℕ) → AtMost (reachesOver H i) (H .n) 0 → 0 ≡ topOf H i
+unfolding topOf
+top-none H i a = greatest-none a
+
+pub high-start : (H : Heights) (i : ℕ) → AtLeast (overlapsAbove H i) (H .n) (i + 1)
+high-start H i = record { least = λ k p. omega (arith, dec-high H i k .is (p .passes) .0) }
+
+pub high-none : (H : Heights) (i j : ℕ) → H .n < j → AtLeast (overlapsAbove H i) (H .n) j → suc (H .n) ≡ highOf H i
+unfolding highOf
+high-none H i j l a = least-none a l
+
+-- THE ARRAY
+
+-- Few points in both orders.
+pub record InOrder (s : List ℕ) : Type 0 where
+  pub long : length s ≡ 517
+  pub few : heightsOf s .n ≤ 32
+  pub sorted : Sorted (heightsOf s)
+
+-- Only cells of low, high and top differ.
+pub record Kept (s r : List ℕ) : Type 0 where
+  pub long : length r ≡ length s
+  pub cell : (c : ℕ) → (136 ≤ c → c < 238 → ⊥) → getD r c 0 ≡ getD s c 0
+
+pub kept-trans : (s r z : List ℕ) → Kept s r → Kept r z → Kept s z
+kept-trans s r z a b = record { long = b .long ∙ a .long; cell = λ c x. b .cell c x ∙ a .cell c x }
+
+module _ {s r : List ℕ} (K : Kept s r) where
+  pub kept-position : (i : ℕ) → i < 34 → positionAt r i ≡ positionAt s i
+  unfolding positionAt
+  kept-position i l = K .cell (480 + i) (λ a b. omega arith)
+
+  pub kept-same : heightsOf s .n ≤ 32 → SameHeights (heightsOf s) (heightsOf r)
+  unfolding heightsOf weightAt
+  kept-same few = record {
+    few = few;
+    n = K .cell 514 (λ a b. omega arith);
+    w = K .cell 515 (λ a b. omega arith);
+    h = K .cell 516 (λ a b. omega arith);
+    column = λ i l. K .cell i (λ a b. omega arith);
+    row = λ i l. K .cell (34 + i) (λ a b. omega arith);
+    weight = λ i l.
+        rw (
+          K .cell (310 + i * 4) (λ a b. omega arith),
+          K .cell (311 + i * 4) (λ a b. omega arith),
+          K .cell (312 + i * 4) (λ a b. omega arith),
+          K .cell (313 + i * 4) (λ a b. omega arith),
+        );
+    allowed = λ i l. ap (λ x. eqb x 1) (K .cell (446 + i) (λ a b. omega arith));
+    atRank = λ t l. K .cell (102 + t) (λ a b. omega arith);
+    rank = λ i l. K .cell (68 + i) (λ a b. omega arith);
+  }
+
+  pub kept-order : InOrder s → InOrder r
+  kept-order o = record {
+    long = K .long ∙ o .long;
+    few = omega (arith, kept-same (o .few) .n, o .few);
+    sorted = sorted-same (kept-same (o .few)) (o .sorted);
+  }
+
+-- Low, high and top of each point; the rest is as it was.
+pub record Limited (s r : List ℕ) : Type 0 where
+  pub kept : Kept s r
+  pub low-is : (i : ℕ) → Point (heightsOf r) i → getD r (136 + i) 0 ≡ lowOf (heightsOf r) i
+  pub high-is : (i : ℕ) → Point (heightsOf r) i → getD r (170 + i) 0 ≡ highOf (heightsOf r) i
+  pub top-is : (i : ℕ) → Point (heightsOf r) i → getD r (204 + i) 0 ≡ topOf (heightsOf r) i
+
+pub written-kept : {at m : ℕ} {g : ℕ → ℕ} {s r : List ℕ} → 136 ≤ at → at + m ≤ 238 → Written (λ i. at + i) g m s r → Kept s r
+written-kept l u w = record { long = w .long; cell = λ c x. w .other c (λ k b e. x (omega arith) (omega arith)) }
+
+-- What was written for the points 1 to m, from cell c + 1 on.
+at-point : (c : ℕ) (f : ℕ → ℕ) {m : ℕ} {s r : List ℕ} → Written (λ k. c + 1 + k) (λ k. f (k + 1)) m s r → (i : ℕ) → 1 ≤ i → i ≤ m → getD r (c + i) 0 ≡ f i
+at-point c f {m} {s} {r} w i l u =
+    let x : c + i ≡ c + 1 + (i - 1) = omega arith in
+    let y : i - 1 + 1 ≡ i = omega arith in
+    ap (λ z. getD r z 0) x ∙ (w .here (i - 1) (omega arith) ∙ ap f y)
+
+module _ {s₀ s₁ : List ℕ} (o : InOrder s₀) (w₁ : Written (λ k. 205 + k) (λ k. topOf (heightsOf s₀) (k + 1)) (heightsOf s₀ .n) s₀ s₁) where
+  kept₁ : Kept s₀ s₁
+  kept₁ = written-kept (omega arith) (omega (arith, o .few)) w₁
+
+  pub order₁ : InOrder s₁
+  order₁ = kept-order kept₁ o
+
+  module _ {s₂ : List ℕ} (w₂ : Written (λ k. 137 + k) (λ k. getD s₁ (205 + k) 0) (heightsOf s₁ .n) s₁ s₂) where
+    kept₂ : Kept s₁ s₂
+    kept₂ = written-kept (omega arith) (omega (arith, order₁ .few)) w₂
+
+    pub order₂ : InOrder s₂
+    order₂ = kept-order kept₂ order₁
+
+    module _ {s₃ : List ℕ} (w₃ : Written (λ k. 171 + k) (λ k. highOf (heightsOf s₂) (k + 1)) (heightsOf s₂ .n) s₂ s₃) where
+      kept₃ : Kept s₂ s₃
+      kept₃ = written-kept (omega arith) (omega (arith, order₂ .few)) w₃
+
+      all-kept : Kept s₀ s₃
+      all-kept = kept-trans s₀ s₂ s₃ (kept-trans s₀ s₁ s₂ kept₁ kept₂) kept₃
+
+      order₃ : InOrder s₃
+      order₃ = kept-order all-kept o
+
+      same₀ : SameHeights (heightsOf s₀) (heightsOf s₃)
+      same₀ = kept-same all-kept (o .few)
+
+      same₁ : SameHeights (heightsOf s₁) (heightsOf s₃)
+      same₁ = kept-same (kept-trans s₁ s₂ s₃ kept₂ kept₃) (order₁ .few)
+
+      same₂ : SameHeights (heightsOf s₂) (heightsOf s₃)
+      same₂ = kept-same kept₃ (order₂ .few)
+
+      -- The cell of top, and the cell of low, which is the same.
+      top-cell : (i : ℕ) → Point (heightsOf s₃) i → getD s₁ (204 + i) 0 ≡ topOf (heightsOf s₃) i
+      top-cell i p =
+          let u : i ≤ heightsOf s₀ .n = omega (arith, same₀ .n, p .high) in
+          at-point 204 (topOf (heightsOf s₀)) w₁ i (p .low) u ∙ sym (top-same same₀ i u)
+
+      low-cell : (i : ℕ) → Point (heightsOf s₃) i → getD s₂ (136 + i) 0 ≡ getD s₁ (204 + i) 0
+      low-cell i p =
+          let u : i ≤ heightsOf s₁ .n = omega (arith, same₁ .n, p .high) in
+          let x : 136 + i ≡ 137 + (i - 1) = omega (arith, p .low) in
+          let y : 205 + (i - 1) ≡ 204 + i = omega (arith, p .low) in
+          ap (λ z. getD s₂ z 0) x ∙ (w₂ .here (i - 1) (omega (arith, p .low)) ∙ ap (λ z. getD s₁ z 0) y)
+
+      pub limited : Limited s₀ s₃
+      limited = record {
+        kept = all-kept;
+        low-is = λ i p.
+            w₃ .other (136 + i) (λ k b e. omega (arith, order₃ .few, p .high))
+            ∙ (low-cell i p ∙ (top-cell i p ∙ sym (low-top (order₃ .sorted) i p)));
+        high-is = λ i p.
+            let u : i ≤ heightsOf s₂ .n = omega (arith, same₂ .n, p .high) in
+            at-point 170 (highOf (heightsOf s₂)) w₃ i (p .low) u ∙ sym (high-same same₂ i u);
+        top-is = λ i p.
+            w₃ .other (204 + i) (λ k b e. omega (arith, order₂ .few))
+            ∙ (w₂ .other (204 + i) (λ k b e. omega (arith, order₁ .few)) ∙ top-cell i p);
+      }

@@ -1,0 +1,47 @@
+-- The array of a sheet, ready for the table. Assumes nothing.
+use mathlib.Core.Path.{sym, _∙_, ap}
+use mathlib.Core.List.{List}
+use Prim.Native.Nat.{ℕ, suc, _+_}
+use native.Mathlib.Omega.{arith}
+use Rattle.labeling.specs.Totals.{all}
+use Rattle.labeling.specs.Recurrence.{total}
+use Rattle.labeling.specs.Positions.{Arranged, AllAllowed}
+use Rattle.labeling.specs.Best.{oneEach}
+use Rattle.format.specs.Sheet.{pointsOf}
+use Rattle.optimum.specs.Arrays.{heightsOf, positionAt, Packed}
+use Rattle.optimum.specs.Ordered.{Ordered}
+use Rattle.optimum.specs.SameHeights.{total-same, arranged-same, allowed-same}
+use Rattle.optimum.specs.Limits.{InOrder, Limited, kept-same, kept-position, kept-order}
+
+-- WHAT THE PREPARATION GIVES: an array as the table asks for it, of the sheet's points in height order, each of weight 1 and allowed.
+pub record Prepared (sheet s : List ℕ) : Type 0 where
+  pub packed : Packed s
+  pub arranged : Arranged (pointsOf sheet) oneEach (heightsOf s) (positionAt s)
+  pub allowed : AllAllowed (heightsOf s)
+
+pub in-order : {sheet s : List ℕ} → Ordered sheet s → InOrder s
+in-order o = record { long = o .long; few = o .few; sorted = o .sorted }
+
+pub prepared : {sheet s r : List ℕ} → Ordered sheet s → Limited s r → Prepared sheet r
+prepared {sheet} {s} {r} o m =
+    let H = kept-same (m .kept) (o .few) in
+    let q = kept-order (m .kept) (in-order o) in
+    record {
+      packed = record {
+        few = q .few;
+        sorted = q .sorted;
+        low-is = m .low-is;
+        high-is = m .high-is;
+        top-is = m .top-is;
+        lower-rank = H .rank 0 (omega arith) ∙ (o .lower-rank ∙ sym (H .n));
+        upper-rank =
+            ap (λ x. heightsOf r .rank (suc x)) (H .n)
+            ∙ (H .rank (suc (heightsOf s .n)) (omega (arith, o .few)) ∙ (o .upper-rank ∙ sym (H .n)));
+        tri-is = λ k l. m .kept .cell (238 + k) (λ a b. omega arith) ∙ o .tri-is k l;
+        tet-is = λ k l. m .kept .cell (274 + k) (λ a b. omega arith) ∙ o .tet-is k l;
+        light =
+            omega (arith, o .light, ap (total (heightsOf r) all) (H .n), total-same H (heightsOf s .n) (omega arith));
+      };
+      arranged = arranged-same H (pointsOf sheet) oneEach (positionAt s) (positionAt r) (kept-position (m .kept)) (o .arranged);
+      allowed = allowed-same H (o .allowed);
+    }

@@ -1,0 +1,79 @@
+// Choosing: the table is filled, and the choice that it gives is recovered and listed.
+ghost use mathlib.Core.Path.{_≡_};
+ghost use Prim.Native.Nat.{_≤_};
+ghost use lib.ListN.{length, replicate};
+ghost use Rattle.format.specs.Sheet.{sheetNo};
+ghost use Rattle.optimum.specs.Table.{Room};
+ghost use Rattle.optimum.specs.Split.{Numbered};
+ghost use Rattle.optimum.specs.Choosing.{BestSplit, nothingChosen};
+ghost use Rattle.optimum.specs.Chosen.{TwoLists};
+use crate::BestChoice;
+use crate::lists::by_position;
+use crate::lists::list_inside;
+use crate::lists::list_outside;
+use crate::lists::zeros;
+use crate::points::PointArray;
+use crate::prepare::prepare;
+use crate::recovery::solve;
+
+// No point is marked yet.
+fn none_marked() -> [u8; 34]
+    ensures { λ r. ⌜ r ≡ replicate 34 0 ⌝ }
+{
+    [0; 34]
+}
+
+// Every number becomes 0.
+fn clear(workspace: &mut [u16])
+    ensures { λ _. ⌜ now (workspace .exit) ≡ replicate (length (now (workspace .entry))) 0 ⌝ }
+{
+    let mut i = 0;
+    while i < workspace.len() {
+        workspace[i] = 0;
+        i += 1;
+    }
+}
+
+// The answer where making is refused.
+pub(crate) fn nothing_chosen(number: u8) -> BestChoice
+    ensures { λ r. ⌜ r ≡ nothingChosen number ⌝ }
+{
+    BestChoice {
+        number,
+        inside: zeros(),
+        inside_count: 0,
+        outside: zeros(),
+        outside_count: 0,
+    }
+}
+
+// The two lists of the choice that the marks by position stand for, of n points.
+fn two_lists(n: u8, heights: &PointArray, marks: &[u8; 32]) -> BestChoice
+    requires { ⌜ (n ≤ 32) × Numbered (now heights) ⌝ }
+    ensures { λ r. ⌜ TwoLists n (now (heights .entry)) (now (marks .entry)) r ⌝ }
+{
+    let mut inside = zeros();
+    let inside_count = list_inside(marks, n, &mut inside) as u8;
+    let mut outside = zeros();
+    let outside_count = list_outside(heights, marks, &mut outside) as u8;
+    BestChoice {
+        number: 0,
+        inside,
+        inside_count,
+        outside,
+        outside_count,
+    }
+}
+
+// A best choice of an accepted sheet, and a workspace of zeros.
+pub(crate) fn chosen(sheet: &[u8], workspace: &mut [u16]) -> BestChoice
+    requires { ⌜ (sheetNo (now sheet) ≡ 0) × Room (now workspace) ⌝ }
+    ensures { λ r. ⌜ (r .number ≡ 0) × BestSplit (now (sheet .entry)) r × (now (workspace .exit) ≡ replicate (length (now (workspace .entry))) 0) ⌝ }
+{
+    let heights = prepare(sheet);
+    let mut mark = none_marked();
+    solve(&heights, workspace, &mut mark);
+    clear(workspace);
+    let marks = by_position(&heights, &mark);
+    two_lists(format::point_count(sheet), &heights, &marks)
+}

@@ -1,0 +1,124 @@
+// Which labels meet, and which points may be inside: the tests of the recurrence, as comparisons of numbers.
+ghost use mathlib.Core.Path.{_≡_};
+ghost use Prim.Native.Nat.{_+_, _<_, _≤_};
+ghost use Rattle.labeling.specs.Recurrence.{Point, overlaps, reachesOver, reach, good, clear};
+ghost use Rattle.optimum.specs.Arrays.{heightsOf, Packed};
+ghost use Rattle.optimum.specs.Conflicts.{near, endsBelow, Candidate};
+use crate::points::PointArray;
+use crate::points::allowed_at;
+use crate::points::column_at;
+use crate::points::high_at;
+use crate::points::label_height;
+use crate::points::label_width;
+use crate::points::low_at;
+use crate::points::point_count;
+use crate::points::row_at;
+use crate::points::top_at;
+use crate::table::State;
+
+// Two stretches of length d, from x and from y on, meet.
+fn stretches_meet(x: usize, y: usize, d: usize) -> bool
+    requires { ⌜ (x < 65536) × (y < 65536) × (d < 65536) ⌝ }
+    ensures { λ r. ⌜ r ≡ near x y d ⌝ }
+{
+    if x >= y + d {
+        return false;
+    }
+    y < x + d
+}
+
+// The labels of i and j share a pixel.
+pub(crate) fn labels_meet(heights: &PointArray, i: usize, j: usize) -> bool
+    requires { ⌜ (i < 34) × (j < 34) ⌝ }
+    ensures { λ r. ⌜ r ≡ overlaps (heightsOf (now (heights .entry))) i j ⌝ }
+{
+    if !stretches_meet(
+        column_at(heights, i),
+        column_at(heights, j),
+        label_width(heights),
+    ) {
+        return false;
+    }
+    stretches_meet(
+        row_at(heights, i),
+        row_at(heights, j),
+        label_height(heights),
+    )
+}
+
+// The label of the point i, which isn't above p, reaches over p's row, on the right of p.
+pub(crate) fn reaches_over(heights: &PointArray, p: usize, i: usize) -> bool
+    requires { ⌜ (1 ≤ i) × (i ≤ p) × (p < 34) ⌝ }
+    ensures { λ r. ⌜ r ≡ reachesOver (heightsOf (now (heights .entry))) p i ⌝ }
+{
+    if row_at(heights, p) >= row_at(heights, i) + label_height(heights) {
+        return false;
+    }
+    if column_at(heights, p) >= column_at(heights, i) {
+        return false;
+    }
+    column_at(heights, i) < column_at(heights, p) + label_width(heights)
+}
+
+// The label that reaches over p, in the upper part of a slab that is cut at p: its point, or 0.
+pub(crate) fn reaching_over(heights: &PointArray, state: State, p: usize) -> usize
+    requires { ⌜ Packed (now heights) × Point (heightsOf (now heights)) p × (state .reaching ≤ state .lower) × (state .lower < p) ⌝ }
+    ensures { λ r. ⌜ r ≡ reach (heightsOf (now (heights .entry))) (state .lower) p (state .reaching) ⌝ }
+{
+    let top = top_at(heights, p);
+    if top > state.lower {
+        return top;
+    }
+    if state.reaching == 0 {
+        return 0;
+    }
+    if reaches_over(heights, p, state.reaching) {
+        return state.reaching;
+    }
+    0
+}
+
+// The label of p ends below the leader of b, if b is a point.
+fn ends_below(heights: &PointArray, p: usize, b: usize) -> bool
+    requires { ⌜ (p < 34) × (b < 34) ⌝ }
+    ensures { λ r. ⌜ r ≡ endsBelow (heightsOf (now (heights .entry))) p b ⌝ }
+{
+    if point_count(heights) < b {
+        return true;
+    }
+    row_at(heights, p) + label_height(heights) <= row_at(heights, b)
+}
+
+// The point p isn't in the row of b, if b is a point.
+pub(crate) fn rows_differ(heights: &PointArray, p: usize, b: usize) -> bool
+    requires { ⌜ (p < 34) × (b < 34) ⌝ }
+    ensures { λ r. ⌜ r ≡ clear (heightsOf (now (heights .entry))) p b ⌝ }
+{
+    if point_count(heights) < b {
+        return true;
+    }
+    row_at(heights, p) != row_at(heights, b)
+}
+
+// The open point p of a slab may be inside, where the points right of it in the slab are.
+pub(crate) fn may_be_inside(heights: &PointArray, state: State, p: usize) -> bool
+    requires { ⌜ Packed (now heights) × Candidate (heightsOf (now heights)) (state .lower) (state .upper) (state .reaching) p ⌝ }
+    ensures { λ r. ⌜ r ≡ good (heightsOf (now (heights .entry))) (heightsOf (now (heights .entry)) .rank p) (state .lower) (state .upper) (state .reaching) ⌝ }
+{
+    if !allowed_at(heights, p) {
+        return false;
+    }
+    if low_at(heights, p) > state.lower {
+        return false;
+    }
+    if high_at(heights, p) < state.upper {
+        return false;
+    }
+    if !ends_below(heights, p, state.upper) {
+        return false;
+    }
+    if state.reaching == 0 {
+        return true;
+    }
+    !labels_meet(heights, p, state.reaching)
+}

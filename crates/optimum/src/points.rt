@@ -1,0 +1,155 @@
+// Reading the points in height order from their array. specs/Arrays.antt has its layout: field after field, 34 cells each.
+ghost use mathlib.Core.Path.{_≡_};
+ghost use Prim.Native.Nat.{_+_, _*_, _<_};
+ghost use lib.ListN.{getD};
+ghost use Rattle.labeling.specs.Recurrence.{Point};
+ghost use Rattle.labeling.specs.Comparisons.{lowOf, highOf, topOf};
+ghost use Rattle.optimum.specs.Arrays.{heightsOf, Packed};
+ghost use Rattle.optimum.specs.Places.{tri, tet};
+
+// The array of the points.
+pub(crate) type PointArray = [u16; 517];
+
+// A cell as a number of 64 bits.
+fn wide(x: u16) -> u64
+    ensures { λ r. ⌜ (r ≡ x) × (r < 65536) ⌝ }
+{
+    x as u64
+}
+
+// A number of 64 bits from its four cells, low cell first.
+pub(crate) fn four_cells(c: u16, d: u16, e: u16, f: u16) -> u64
+    ensures { λ r. ⌜ r ≡ c + d * 65536 + e * 4294967296 + f * 281474976710656 ⌝ }
+{
+    wide(c) + wide(d) * 65536 + wide(e) * 4294967296 + wide(f) * 281474976710656
+}
+
+// A cell as an index.
+pub(crate) fn number(x: u16) -> usize
+    ensures { λ r. ⌜ (r ≡ x) × (r < 65536) ⌝ }
+{
+    x as usize
+}
+
+// The cell at place i.
+fn cell(heights: &PointArray, i: usize) -> usize
+    requires { ⌜ i < 517 ⌝ }
+    ensures { λ r. ⌜ (r ≡ getD (now (heights .entry)) i 0) × (r < 65536) ⌝ }
+{
+    number(heights[i])
+}
+
+// The number of points.
+pub(crate) fn point_count(heights: &PointArray) -> usize
+    ensures { λ r. ⌜ (r ≡ heightsOf (now (heights .entry)) .n) × (r < 65536) ⌝ }
+{
+    cell(heights, 514)
+}
+
+// The column of the point i.
+pub(crate) fn column_at(heights: &PointArray, i: usize) -> usize
+    requires { ⌜ i < 34 ⌝ }
+    ensures { λ r. ⌜ (r ≡ heightsOf (now (heights .entry)) .column i) × (r < 65536) ⌝ }
+{
+    cell(heights, i)
+}
+
+// The row of the point i.
+pub(crate) fn row_at(heights: &PointArray, i: usize) -> usize
+    requires { ⌜ i < 34 ⌝ }
+    ensures { λ r. ⌜ (r ≡ heightsOf (now (heights .entry)) .row i) × (r < 65536) ⌝ }
+{
+    cell(heights, 34 + i)
+}
+
+// The rank of the point i in right order.
+pub(crate) fn rank_at(heights: &PointArray, i: usize) -> usize
+    requires { ⌜ i < 34 ⌝ }
+    ensures { λ r. ⌜ (r ≡ heightsOf (now (heights .entry)) .rank i) × (r < 65536) ⌝ }
+{
+    cell(heights, 68 + i)
+}
+
+// The point of rank t in right order.
+pub(crate) fn at_rank(heights: &PointArray, t: usize) -> usize
+    requires { ⌜ t < 34 ⌝ }
+    ensures { λ r. ⌜ (r ≡ heightsOf (now (heights .entry)) .atRank t) × (r < 65536) ⌝ }
+{
+    cell(heights, 102 + t)
+}
+
+// The greatest point below i that is right of it and overlaps it, or 0.
+pub(crate) fn low_at(heights: &PointArray, i: usize) -> usize
+    requires { ⌜ Packed (now heights) × Point (heightsOf (now heights)) i ⌝ }
+    ensures { λ r. ⌜ r ≡ lowOf (heightsOf (now (heights .entry))) i ⌝ }
+{
+    cell(heights, 136 + i)
+}
+
+// The least point above i that is right of it and overlaps it, or n + 1.
+pub(crate) fn high_at(heights: &PointArray, i: usize) -> usize
+    requires { ⌜ Packed (now heights) × Point (heightsOf (now heights)) i ⌝ }
+    ensures { λ r. ⌜ r ≡ highOf (heightsOf (now (heights .entry))) i ⌝ }
+{
+    cell(heights, 170 + i)
+}
+
+// The topmost point whose label reaches over i, or 0.
+pub(crate) fn top_at(heights: &PointArray, i: usize) -> usize
+    requires { ⌜ Packed (now heights) × Point (heightsOf (now heights)) i ⌝ }
+    ensures { λ r. ⌜ r ≡ topOf (heightsOf (now (heights .entry))) i ⌝ }
+{
+    cell(heights, 204 + i)
+}
+
+// The sum of the numbers below k.
+pub(crate) fn triangular(heights: &PointArray, k: usize) -> usize
+    requires { ⌜ Packed (now heights) × (k < 36) ⌝ }
+    ensures { λ r. ⌜ (r ≡ tri k) × (r < 65536) ⌝ }
+{
+    cell(heights, 238 + k)
+}
+
+// The sum of the triangular numbers below k.
+pub(crate) fn tetrahedral(heights: &PointArray, k: usize) -> usize
+    requires { ⌜ Packed (now heights) × (k < 36) ⌝ }
+    ensures { λ r. ⌜ (r ≡ tet k) × (r < 65536) ⌝ }
+{
+    cell(heights, 274 + k)
+}
+
+// The weight of the point i.
+pub(crate) fn weight_at(heights: &PointArray, i: usize) -> u64
+    requires { ⌜ i < 34 ⌝ }
+    ensures { λ r. ⌜ r ≡ heightsOf (now (heights .entry)) .weight i ⌝ }
+{
+    let k = i * 4;
+    four_cells(
+        heights[310 + k],
+        heights[311 + k],
+        heights[312 + k],
+        heights[313 + k],
+    )
+}
+
+// The point i may be inside.
+pub(crate) fn allowed_at(heights: &PointArray, i: usize) -> bool
+    requires { ⌜ i < 34 ⌝ }
+    ensures { λ r. ⌜ r ≡ heightsOf (now (heights .entry)) .allowed i ⌝ }
+{
+    cell(heights, 446 + i) == 1
+}
+
+// The width of a label.
+pub(crate) fn label_width(heights: &PointArray) -> usize
+    ensures { λ r. ⌜ (r ≡ heightsOf (now (heights .entry)) .w) × (r < 65536) ⌝ }
+{
+    cell(heights, 515)
+}
+
+// The height of a label.
+pub(crate) fn label_height(heights: &PointArray) -> usize
+    ensures { λ r. ⌜ (r ≡ heightsOf (now (heights .entry)) .h) × (r < 65536) ⌝ }
+{
+    cell(heights, 516)
+}
