@@ -17,7 +17,7 @@ use Rattle.labeling.specs.Marks.{Valid}
 use Rattle.labeling.specs.Best.{weight, count, bestCount}
 use Rattle.labeling.specs.Agree.{valid-agree}
 use Rattle.labeling.specs.Greatest.{best-count-most}
-use Rattle.labeling.specs.Tests.{clash, decide}
+use Rattle.labeling.specs.Tests.{not-both, decide}
 use Rattle.format.specs.declared.clash.ClashKind.{ClashKind}
 use Rattle.format.specs.declared.clash.Clash.{Clash}
 use Rattle.format.specs.declared.clash.Clash.the-variants.{None, Between}
@@ -254,10 +254,10 @@ module _ (s l : List ℕ) (a : Accepted s) (f : Listed (pointCount s) l) where
         valid-exactly = (λ t. c .none .0 e, λ v. refl);
         valid = λ v. refl;
         at-most = list-at-most;
-        clash = λ i j k. (λ q. absurd (clash refl (ap calledValid q)), λ n. absurd (apart (sym e ∙ c .between i j k .1 n)));
+        clash = λ i j k. (λ q. absurd (not-both refl (ap calledValid q)), λ n. absurd (apart (sym e ∙ c .between i j k .1 n)));
       }
       which (Between i j k) e = record {
-        valid-exactly = (λ t. absurd (clash t refl), λ v. absurd (apart (sym (c .none .1 v) ∙ e)));
+        valid-exactly = (λ t. absurd (not-both t refl), λ v. absurd (apart (sym (c .none .1 v) ∙ e)));
         valid = λ v. absurd (apart (sym (c .none .1 v) ∙ e));
         at-most = list-at-most;
         clash = λ a b m. (
@@ -442,7 +442,7 @@ marked-right calls l z = by (lastSheet calls) refl
     asked = none-mark _ _ _ _ .is z
 
     by : (o : Option (List ℕ)) → lastSheet calls ≡ o → MarkedRight calls l
-    by none e = absurd (clash (asked .0 .0) (t .loaded ∙ ap isSome e))
+    by none e = absurd (not-both (asked .0 .0) (t .loaded ∙ ap isSome e))
     by (some s) e =
         let h : SheetHeld d (some s) = rw e at (t .sheet) in
         let f : Listed (pointCount s) l = rw e at (asked .0 .1) in

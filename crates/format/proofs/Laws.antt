@@ -9,7 +9,7 @@ use native.Mathlib.Omega.{arith}
 use native.Mathlib.Numerals.{add-one}
 use Rattle.labeling.specs.Points.{Points, Choice}
 use Rattle.labeling.specs.Conflicts.{every, overlapB, hitsB}
-use Rattle.labeling.specs.Tests.{clash, decide, same, every-is}
+use Rattle.labeling.specs.Tests.{not-both, decide, same, every-is}
 use Rattle.format.specs.declared.clash.ClashKind.the-variants.{Labels, LabelAndLeader}
 use Rattle.format.specs.declared.clash.Clash.{Clash}
 use Rattle.format.specs.declared.clash.Clash.the-variants.{None, Between}
@@ -31,7 +31,7 @@ unfolding unlikeEarlier
 not-unlike f i j l e =
     decide (every (λ j. not (eqb (f j) (f i))) i)
     (λ t. let z : not (eqb (f j) (f i)) ≡ true = every-is (λ j. not (eqb (f j) (f i))) i t j l in
-    let y : not true ≡ true = rw (eq-eqb (f j) (f i) e) at z in absurd (clash y refl))
+    let y : not true ≡ true = rw (eq-eqb (f j) (f i) e) at z in absurd (not-both y refl))
     (λ t. t)
 
 -- POINT BY POINT
@@ -102,10 +102,10 @@ pair-leaders P S i j a b = rw (a, b)
 
 no-clash : (c : Clash) → isClash c ≡ false → c ≡ None
 no-clash None e = refl
-no-clash (Between i j k) e = absurd (clash refl e)
+no-clash (Between i j k) e = absurd (not-both refl e)
 
 or-clash : (c d : Clash) → isClash c ≡ true → c ≡ orElse c d
-or-clash None d e = absurd (clash e refl)
+or-clash None d e = absurd (not-both e refl)
 or-clash (Between i j k) d e = refl
 
 -- one more without a clash

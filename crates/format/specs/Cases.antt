@@ -9,7 +9,7 @@ use borrow.Author.Tests.{eqb-true}
 use Rattle.labeling.specs.Points.{Points, Choice, before, insert, outsideBelow, outside, nextMargin, placedFrom, placed}
 use Rattle.labeling.specs.Marks.{Valid}
 use Rattle.labeling.specs.Conflicts.{conflictB, validB, every}
-use Rattle.labeling.specs.Tests.{clash, and-left, and-right}
+use Rattle.labeling.specs.Tests.{not-both, and-left, and-right}
 use Rattle.labeling.specs.Pixels.{dec-valid}
 use Rattle.labeling.specs.Margin.{among}
 use Rattle.labeling.specs.Best.{weightBelow, weight, oneEach, OnlyBest, put}
@@ -138,12 +138,12 @@ eachB (c ∷ cs) = rightB c && eachB cs
 
 same-kind : (m k : ClashKind) → sameKind m k ≡ true → m ≡ k
 same-kind Labels Labels e = refl
-same-kind Labels LabelAndLeader e = absurd (clash e refl)
-same-kind LabelAndLeader Labels e = absurd (clash e refl)
+same-kind Labels LabelAndLeader e = absurd (not-both e refl)
+same-kind LabelAndLeader Labels e = absurd (not-both e refl)
 same-kind LabelAndLeader LabelAndLeader e = refl
 
 same-clash : (c : Clash) (i j : ℕ) (k : ClashKind) → sameClash c i j k ≡ true → c ≡ Between i j k
-same-clash None i j k e = absurd (clash e refl)
+same-clash None i j k e = absurd (not-both e refl)
 same-clash (Between a b m) i j k e =
     let e₁ = and-right (eqb a i) _ e in
     let p : a ≡ i = eqb-true a i (and-left _ _ e) in

@@ -11,7 +11,7 @@ use native.Mathlib.Omega.{arith}
 use Rattle.labeling.specs.Points.{Points, Choice, DistinctRows}
 use Rattle.labeling.specs.Marks.{Shared, Valid}
 use Rattle.labeling.specs.Conflicts.{Conflict, Free}
-use Rattle.labeling.specs.Tests.{clash, decide, same, Decides, dec-overlap, dec-hits}
+use Rattle.labeling.specs.Tests.{not-both, decide, same, Decides, dec-overlap, dec-hits}
 use Rattle.labeling.specs.Pixels.{shared-conflict, conflict-shared, free-valid, valid-free}
 use Rattle.labeling.specs.ConflictTable.{conflict-sym}
 use Rattle.format.specs.declared.clash.ClashKind.{ClashKind}
@@ -24,7 +24,7 @@ use Rattle.format.specs.FirstClash.{isClash, orElse, clashIf, pairClash,
 
 -- none is no clash
 none-between : {c : Clash} {i j : ℕ} {k : ClashKind} → c ≡ None → c ≡ Between i j k → ⊥
-none-between e q = clash (ap isClash q) (ap isClash e)
+none-between e q = not-both (ap isClash q) (ap isClash e)
 
 -- THE FIRST OF SEVERAL
 
@@ -83,7 +83,7 @@ pair-if : (P : Points) (S : Choice) (i j : ℕ) (k : ClashKind) {b : Bool} {A : 
 pair-if P S i j k {b} d to of kind =
     decide b
     (λ e. rw e (met (to (d .is e)) kind))
-    (λ e. rw e (apart (λ c. clash (d .of (of c)) e)))
+    (λ e. rw e (apart (λ c. not-both (d .of (of c)) e)))
 
 pair-is : (P : Points) (S : Choice) (i j : ℕ) → (P .row i ≡ P .row j → ⊥) → PairIs P S i j (pairClash P S i j)
 unfolding pairClash Conflict
@@ -109,16 +109,16 @@ pair-met {P} {S} {i} {j} {a} {b} {k} (met {k = m} c kind) e =
 -- only two inside points clash by their labels
 labels-both : (k : ClashKind) {a b : Bool} → KindOf k a b → (k ≡ Labels) ↔ ((a ≡ true) × (b ≡ true))
 labels-both Labels y = (λ e. y, λ z. refl)
-labels-both LabelAndLeader (inl y) = (λ e. let z : _≡_ {A = ℕ} 0 1 = cc in absurd (omega arith), λ z. absurd (clash (z .1) (y .1)))
-labels-both LabelAndLeader (inr y) = (λ e. let z : _≡_ {A = ℕ} 0 1 = cc in absurd (omega arith), λ z. absurd (clash (z .0) (y .0)))
+labels-both LabelAndLeader (inl y) = (λ e. let z : _≡_ {A = ℕ} 0 1 = cc in absurd (omega arith), λ z. absurd (not-both (z .1) (y .1)))
+labels-both LabelAndLeader (inr y) = (λ e. let z : _≡_ {A = ℕ} 0 1 = cc in absurd (omega arith), λ z. absurd (not-both (z .0) (y .0)))
 
 -- a kind is fixed by which of the two are inside
 kind-once : (k m : ClashKind) (a b : Bool) → KindOf k a b → KindOf m a b → k ≡ m
 kind-once Labels Labels a b x y = refl
-kind-once Labels LabelAndLeader a b x (inl y) = absurd (clash (x .1) (y .1))
-kind-once Labels LabelAndLeader a b x (inr y) = absurd (clash (x .0) (y .0))
-kind-once LabelAndLeader Labels a b (inl x) y = absurd (clash (y .1) (x .1))
-kind-once LabelAndLeader Labels a b (inr x) y = absurd (clash (y .0) (x .0))
+kind-once Labels LabelAndLeader a b x (inl y) = absurd (not-both (x .1) (y .1))
+kind-once Labels LabelAndLeader a b x (inr y) = absurd (not-both (x .0) (y .0))
+kind-once LabelAndLeader Labels a b (inl x) y = absurd (not-both (y .1) (x .1))
+kind-once LabelAndLeader Labels a b (inr x) y = absurd (not-both (y .0) (x .0))
 kind-once LabelAndLeader LabelAndLeader a b x y = refl
 
 -- THE PAIR THAT DOCUMENT 01 NAMES: i and j, with the kind k, share a pixel, and no pair before it, by the first position and then by

@@ -8,7 +8,7 @@ use lib.Dec.{ltb, eqb}
 use borrow.Author.Tests.{eq-eqb, ne-eqb}
 use native.Mathlib.Omega.{arith}
 use Rattle.labeling.specs.Points.{Points, Choice}
-use Rattle.labeling.specs.Tests.{clash, decide, same, dec-lt, and-left, and-right, and-both, or-left, or-right}
+use Rattle.labeling.specs.Tests.{not-both, decide, same, dec-lt, and-left, and-right, and-both, or-left, or-right}
 use Rattle.labeling.specs.Margin.{among, among-head, among-tail, among-rest, among-none}
 use Rattle.labeling.specs.Order.{Ordered, ordered-unique}
 use Rattle.format.specs.Plate.{choiceOf, insideBelow}
@@ -62,7 +62,7 @@ inside-lists S (suc m) x l e =
     (λ q. or-right (among x (insideBelow S m)) _ (eq-eqb x m q))
     (λ ne. or-left _ _ (inside-lists S m x (omega arith) e))))
     (λ k. same x m
-    (λ q. absurd (clash e (rw q k)))
+    (λ q. absurd (not-both e (rw q k)))
     (λ ne. rw (inside-off S m k) (inside-lists S m x (omega arith) e)))
 
 -- THE CHOICE OF A CHOICE'S LIST is that choice, on every position below n.
@@ -70,7 +70,7 @@ pub choice-of-list : (S : Choice) (n i : ℕ) → i < n → choiceOf (insideBelo
 choice-of-list S n i l =
     decide (S i)
     (λ e. inside-lists S n i l e ∙ sym e)
-    (λ e. decide (among i (insideBelow S n)) (λ a. absurd (clash (inside-is S n i a .1) e)) (λ a. a ∙ sym e))
+    (λ e. decide (among i (insideBelow S n)) (λ a. absurd (not-both (inside-is S n i a .1) e)) (λ a. a ∙ sym e))
 
 -- ASCENDING
 

@@ -8,7 +8,7 @@ use lib.Dec.{ltb, eqb}
 use lib.ListN.{length}
 use native.Mathlib.Omega.{arith}
 use Rattle.labeling.specs.Points.{Points, Choice, Distinct, before, outside, nextMargin, placedFrom, placed}
-use Rattle.labeling.specs.Tests.{clash, decide, same, Decides, dec-lt, dec-eq, dec-and, and-left, and-right, and-both}
+use Rattle.labeling.specs.Tests.{not-both, decide, same, Decides, dec-lt, dec-eq, dec-and, and-left, and-right, and-both}
 use Rattle.labeling.specs.Margin.{among, among-head, among-tail, among-rest, among-none, outside-lists}
 use Rattle.labeling.specs.Order.{Before, dec-before, before-trans, before-asym, First, Ordered, outside-is, outside-ordered}
 use Rattle.format.specs.Bytes.{dec-bytes}
@@ -99,7 +99,7 @@ record After (P : Points) (S : Choice) (j k : ℕ) (b : List ℕ) : Type 0 where
 after-is : (P : Points) (S : Choice) (j k : ℕ) (b : List ℕ) → pairsAfter P S j k b ≡ true → After P S j k b
 unfolding pairsAfter placedFrom pairs
 after-is P S j k [] e = record { positions = []; ordered = (λ x a. absurd (among-none x a), tt); outsiders = λ x a. absurd (among-none x a); is = refl }
-after-is P S j k (i ∷ []) e = absurd (clash e refl)
+after-is P S j k (i ∷ []) e = absurd (not-both e refl)
 after-is P S j k (i ∷ m ∷ b) e =
     let f = and-left (pairFollows P S j k i m) _ e in
     let g = and-right (outsidePoint P S i) _ f in
@@ -145,7 +145,7 @@ record Walked (P : Points) (S : Choice) (b : List ℕ) : Type 0 where
 follow-is : (P : Points) (S : Choice) (b : List ℕ) → pairsFollow P S b ≡ true → Walked P S b
 unfolding pairsFollow placed pairs
 follow-is P S [] e = record { positions = []; ordered = tt; outsiders = λ x a. absurd (among-none x a); is = refl }
-follow-is P S (i ∷ []) e = absurd (clash e refl)
+follow-is P S (i ∷ []) e = absurd (not-both e refl)
 follow-is P S (i ∷ m ∷ b) e =
     let e₁ = and-right (outsidePoint P S i) _ e in
     let out : (i < P .n) × (S i ≡ false) = dec-outside-point P S i .is (and-left _ _ e) in
@@ -198,7 +198,7 @@ module _ (P : Points) (S : Choice) (b : List ℕ) (d : Distinct P) (many : lengt
       rw q (follow-of P S (outside P S) outside-in-order outside-outsiders)
 
   pub walk-right : pairsFollow P S b ≡ pairsRight P S b
-  walk-right = decide (pairsRight P S b) (λ e. right-follow e ∙ sym e) (λ e. decide (pairsFollow P S b) (λ f. absurd (clash (follow-right f) e)) (λ f. f ∙ sym e))
+  walk-right = decide (pairsRight P S b) (λ e. right-follow e ∙ sym e) (λ e. decide (pairsFollow P S b) (λ f. absurd (not-both (follow-right f) e)) (λ f. f ∙ sym e))
 
 -- ONLY POSITIONS BELOW n MATTER to the walk.
 module _ (P : Points) (S R : Choice) (e : (i : ℕ) → i < P .n → S i ≡ R i) where

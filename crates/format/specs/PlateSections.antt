@@ -10,7 +10,7 @@ use lib.Seq.{length-take-le, getD-take, drop-cons, drop-drop, take-at, drop-at, 
 use borrow.Author.Tests.{eqb-true, eqb-false, eq-eqb}
 use native.Mathlib.Omega.{arith}
 use Rattle.labeling.specs.Points.{outside}
-use Rattle.labeling.specs.Tests.{clash, decide, Decides, dec-eq, dec-and}
+use Rattle.labeling.specs.Tests.{not-both, decide, Decides, dec-eq, dec-and}
 use Rattle.labeling.specs.Best.{count, weight, weightBelow, oneEach}
 use Rattle.format.specs.Sheet.{twoBytes, pointCount, pointsOf}
 use Rattle.format.specs.Accepted.{Proper, Accepted, NoneOf, none-ask, none-left, none-plate-sheet}
@@ -38,7 +38,7 @@ dec-fit p =
 -- 44: there is no clash.
 dec-none : (c : Clash) → Decides (not (isClash c)) (c ≡ None)
 dec-none None = record { is = λ e. refl; of = λ e. refl }
-dec-none (Between i j k) = record { is = λ e. absurd (clash refl (sym e)); of = λ e. absurd (clash refl (ap isClash e)) }
+dec-none (Between i j k) = record { is = λ e. absurd (not-both refl (sym e)); of = λ e. absurd (not-both refl (ap isClash e)) }
 
 -- A Bool question.
 dec-true : (b : Bool) → Decides b (b ≡ true)
