@@ -27,16 +27,16 @@ use Rattle.format.specs.ClashPixels.{Named, first-clash-right}
 use Rattle.format.specs.PlateQuestions.{sheetOf, insideList, outsidePairs, sectionsFit, ascending, pairsRight, sectionsNo, plateNo}
 
 -- What a case says of its choice; of a clash, the two positions and its kind.
-pub data Verdict : Type 0 where
-  onlyBest : Verdict
-  valid : Verdict
-  clashes : (first second : ℕ) → ClashKind → Verdict
+pub data Expected : Type 0 where
+  onlyBest : Expected
+  valid : Expected
+  clashes : (first second : ℕ) → ClashKind → Expected
 
 -- A sheet, the positions of a choice, what is to hold of that choice, and the bytes that its plate adds to the sheet's.
 pub record Case : Type 0 where
   pub sheet : List ℕ
   pub inside : List ℕ
-  pub verdict : Verdict
+  pub expected : Expected
   pub added : List ℕ
 
 -- THE TABLE
@@ -62,48 +62,48 @@ sheet8 = sheet 4 3 3 (at 1 5 10 (at 2 0 9 (at 3 2 7 [])))
 abbrev pub cases : List Case
 cases =
     -- P1: "The plate adds 02 01 02 01 00 00."
-    record { sheet = sheet1; inside = 1 ∷ 2 ∷ []; verdict = onlyBest; added = 2 ∷ 1 ∷ 2 ∷ 1 ∷ 0 ∷ 0 ∷ [] } ∷
+    record { sheet = sheet1; inside = 1 ∷ 2 ∷ []; expected = onlyBest; added = 2 ∷ 1 ∷ 2 ∷ 1 ∷ 0 ∷ 0 ∷ [] } ∷
     -- "On P1, a fresh desk gives list ... 01 00 number 2, clash of 0 and 1"
-    record { sheet = sheet1; inside = 0 ∷ []; verdict = clashes 0 1 LabelAndLeader; added = 1 ∷ 0 ∷ 2 ∷ 2 ∷ 0 ∷ 1 ∷ 0 ∷ [] } ∷
+    record { sheet = sheet1; inside = 0 ∷ []; expected = clashes 0 1 LabelAndLeader; added = 1 ∷ 0 ∷ 2 ∷ 2 ∷ 0 ∷ 1 ∷ 0 ∷ [] } ∷
     -- P2: "only the third inside; margin columns 1 for the first, 0 for the second"
-    record { sheet = sheet2; inside = 2 ∷ []; verdict = onlyBest; added = 1 ∷ 2 ∷ 2 ∷ 1 ∷ 0 ∷ 0 ∷ 1 ∷ [] } ∷
+    record { sheet = sheet2; inside = 2 ∷ []; expected = onlyBest; added = 1 ∷ 2 ∷ 2 ∷ 1 ∷ 0 ∷ 0 ∷ 1 ∷ [] } ∷
     -- P3: "label 4 by 2, (2,3) and (6,4): both inside"
-    record { sheet = sheet 4 2 2 (at 1 2 3 (at 2 6 4 [])); inside = 0 ∷ 1 ∷ []; verdict = onlyBest; added = 2 ∷ 0 ∷ 1 ∷ 0 ∷ [] } ∷
+    record { sheet = sheet 4 2 2 (at 1 2 3 (at 2 6 4 [])); inside = 0 ∷ 1 ∷ []; expected = onlyBest; added = 2 ∷ 0 ∷ 1 ∷ 0 ∷ [] } ∷
     -- P4: "(2,3) and (5,4): the second alone"
-    record { sheet = sheet 4 2 2 (at 1 2 3 (at 2 5 4 [])); inside = 1 ∷ []; verdict = onlyBest; added = 1 ∷ 1 ∷ 1 ∷ 0 ∷ 0 ∷ [] } ∷
+    record { sheet = sheet 4 2 2 (at 1 2 3 (at 2 5 4 [])); inside = 1 ∷ []; expected = onlyBest; added = 1 ∷ 1 ∷ 1 ∷ 0 ∷ 0 ∷ [] } ∷
     -- P4's two points both inside
-    record { sheet = sheet 4 2 2 (at 1 2 3 (at 2 5 4 [])); inside = 0 ∷ 1 ∷ []; verdict = clashes 0 1 Labels; added = 2 ∷ 0 ∷ 1 ∷ 0 ∷ [] } ∷
+    record { sheet = sheet 4 2 2 (at 1 2 3 (at 2 5 4 [])); inside = 0 ∷ 1 ∷ []; expected = clashes 0 1 Labels; added = 2 ∷ 0 ∷ 1 ∷ 0 ∷ [] } ∷
     -- P5: "(4,3) inside and (3,4) outside: valid"
-    record { sheet = sheet 4 2 2 (at 1 4 3 (at 2 3 4 [])); inside = 0 ∷ []; verdict = valid; added = 1 ∷ 0 ∷ 1 ∷ 1 ∷ 0 ∷ [] } ∷
+    record { sheet = sheet 4 2 2 (at 1 4 3 (at 2 3 4 [])); inside = 0 ∷ []; expected = valid; added = 1 ∷ 0 ∷ 1 ∷ 1 ∷ 0 ∷ [] } ∷
     -- P6: "the second at (4,4): a clash"
-    record { sheet = sheet 4 2 2 (at 1 4 3 (at 2 4 4 [])); inside = 0 ∷ []; verdict = clashes 0 1 LabelAndLeader; added = 1 ∷ 0 ∷ 1 ∷ 1 ∷ 0 ∷ [] } ∷
+    record { sheet = sheet 4 2 2 (at 1 4 3 (at 2 4 4 [])); inside = 0 ∷ []; expected = clashes 0 1 LabelAndLeader; added = 1 ∷ 0 ∷ 1 ∷ 1 ∷ 0 ∷ [] } ∷
     -- P7: "(2,3) and (2,5), label 4 by 2: both inside"
-    record { sheet = sheet 4 2 2 (at 1 2 3 (at 2 2 5 [])); inside = 0 ∷ 1 ∷ []; verdict = onlyBest; added = 2 ∷ 0 ∷ 1 ∷ 0 ∷ [] } ∷
+    record { sheet = sheet 4 2 2 (at 1 2 3 (at 2 2 5 [])); inside = 0 ∷ 1 ∷ []; expected = onlyBest; added = 2 ∷ 0 ∷ 1 ∷ 0 ∷ [] } ∷
     -- P8: "h = 3, outside rows 10, 9, 7: columns 0, 1, 2"
-    record { sheet = sheet8; inside = []; verdict = valid; added = 0 ∷ 3 ∷ 0 ∷ 0 ∷ 1 ∷ 1 ∷ 2 ∷ 2 ∷ [] } ∷
+    record { sheet = sheet8; inside = []; expected = valid; added = 0 ∷ 3 ∷ 0 ∷ 0 ∷ 1 ∷ 1 ∷ 2 ∷ 2 ∷ [] } ∷
     -- P9: "rows 10, 9, 6: columns 0, 1, 0"
-    record { sheet = sheet 4 3 3 (at 1 5 10 (at 2 0 9 (at 3 2 6 []))); inside = []; verdict = valid; added = 0 ∷ 3 ∷ 0 ∷ 0 ∷ 1 ∷ 1 ∷ 2 ∷ 0 ∷ [] } ∷
+    record { sheet = sheet 4 3 3 (at 1 5 10 (at 2 0 9 (at 3 2 6 []))); inside = []; expected = valid; added = 0 ∷ 3 ∷ 0 ∷ 0 ∷ 1 ∷ 1 ∷ 2 ∷ 0 ∷ [] } ∷
     -- P10: "n = 0: the plate adds 00 00"
-    record { sheet = sheet 4 2 0 []; inside = []; verdict = onlyBest; added = 0 ∷ 0 ∷ [] } ∷ []
+    record { sheet = sheet 4 2 0 []; inside = []; expected = onlyBest; added = 0 ∷ 0 ∷ [] } ∷ []
 
 -- WHAT A CASE SAYS
 
-abbrev pub Says : Verdict → Points → Choice → Type 0
+abbrev pub Says : Expected → Points → Choice → Type 0
 Says onlyBest P S = OnlyBest P oneEach S
 Says valid P S = Valid P S
 Says (clashes i j k) P S = Named P S i j k
 
 -- What the plate's questions answer: 0, or "Is the choice valid? 44".
-abbrev pub readNo : Verdict → ℕ
+abbrev pub readNo : Expected → ℕ
 readNo onlyBest = 0
 readNo valid = 0
 readNo (clashes i j k) = 44
 
 pub record Right (c : Case) : Type 0 where
   pub accepted : sheetNo (c .sheet) ≡ 0
-  pub verdict : Says (c .verdict) (pointsOf (c .sheet)) (choiceOf (c .inside))
+  pub expected : Says (c .expected) (pointsOf (c .sheet)) (choiceOf (c .inside))
   pub plate : plateOf (c .sheet) (choiceOf (c .inside)) ≡ c .sheet ++ c .added
-  pub read : plateNo (c .sheet ++ c .added) ≡ readNo (c .verdict)
+  pub read : plateNo (c .sheet ++ c .added) ≡ readNo (c .expected)
 
 abbrev pub Each : List Case → Type 0
 Each [] = Unit {0}
@@ -121,7 +121,7 @@ abbrev sameClash : Clash → ℕ → ℕ → ClashKind → Bool
 sameClash None i j k = false
 sameClash (Between a b m) i j k = eqb a i && (eqb b j && sameKind m k)
 
-abbrev saysB : Verdict → Points → Choice → Bool
+abbrev saysB : Expected → Points → Choice → Bool
 saysB onlyBest P S = onlyBestB P oneEach S
 saysB valid P S = validB P S
 saysB (clashes i j k) P S = sameClash (firstClash P S) i j k
@@ -130,7 +130,7 @@ abbrev rightB : Case → Bool
 rightB c =
     let s = c .sheet in
     let S = choiceOf (c .inside) in
-    eqb (sheetNo s) 0 && (saysB (c .verdict) (pointsOf s) S && (sameBytes (plateOf s S) (s ++ c .added) && eqb (plateNo (s ++ c .added)) (readNo (c .verdict))))
+    eqb (sheetNo s) 0 && (saysB (c .expected) (pointsOf s) S && (sameBytes (plateOf s S) (s ++ c .added) && eqb (plateNo (s ++ c .added)) (readNo (c .expected))))
 
 abbrev eachB : List Case → Bool
 eachB [] = true
@@ -151,7 +151,7 @@ same-clash (Between a b m) i j k e =
     let r : m ≡ k = same-kind m k (and-right (eqb b j) _ e₁) in
     λ d. Between (p d) (q d) (r d)
 
-says : (v : Verdict) (s : List ℕ) (S : Choice) → Accepted s → saysB v (pointsOf s) S ≡ true → Says v (pointsOf s) S
+says : (x : Expected) (s : List ℕ) (S : Choice) → Accepted s → saysB x (pointsOf s) S ≡ true → Says x (pointsOf s) S
 says onlyBest s S a e = onlyBestB-is (pointsOf s) oneEach S (a .proper .label-width .0) e
 says valid s S a e = dec-valid (pointsOf s) S (a .proper .label-width .0) .is e
 says (clashes i j k) s S a e = first-clash-right s S a .between i j k .0 (same-clash _ i j k e)
@@ -161,11 +161,11 @@ right c e =
     let s = c .sheet in
     let S = choiceOf (c .inside) in
     let e₁ = and-right (eqb (sheetNo s) 0) _ e in
-    let e₂ = and-right (saysB (c .verdict) (pointsOf s) S) _ e₁ in
+    let e₂ = and-right (saysB (c .expected) (pointsOf s) S) _ e₁ in
     let ok : sheetNo s ≡ 0 = eqb-true _ _ (and-left _ _ e) in
     record {
       accepted = ok;
-      verdict = says (c .verdict) s S (accepted s ok) (and-left _ _ e₁);
+      expected = says (c .expected) s S (accepted s ok) (and-left _ _ e₁);
       plate = dec-bytes _ _ .is (and-left _ _ e₂);
       read = eqb-true _ _ (and-right (sameBytes (plateOf s S) (s ++ c .added)) _ e₂);
     }
