@@ -18,13 +18,6 @@ use Rattle.format.specs.Sheet.{unlikeEarlier, pointNo, pointsNo}
 use Rattle.format.specs.FirstClash.{isClash, orElse, clashIf, pairClash, firstOf, orderedClash}
 use Rattle.format.specs.ClashPixels.{first-none, none-first}
 
--- two tests one after the other: the first fails, or the second decides
-pub and-no : (a b : Bool) → a ≡ false → false ≡ (a && b)
-and-no a b e = rw e
-
-pub and-yes : (a b r : Bool) → a ≡ true → r ≡ b → r ≡ (a && b)
-and-yes a b r e q = rw e q
-
 -- one earlier position with the same number: not unlike every earlier one
 pub not-unlike : (f : ℕ → ℕ) (i j : ℕ) → j < i → f j ≡ f i → unlikeEarlier f i ≡ false
 unfolding unlikeEarlier

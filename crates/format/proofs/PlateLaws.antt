@@ -11,7 +11,7 @@ use native.Mathlib.Numerals.{add-one}
 use native.Mathlib.Omega.{arith}
 use Rattle.labeling.specs.Points.{Points, Choice, before, nextMargin}
 use Rattle.labeling.specs.Tests.{same}
-use Rattle.format.specs.Sheet.{pointCount, pointsOf, thenNo, plateSheetNo}
+use Rattle.format.specs.Sheet.{pointCount, pointsOf, plateSheetNo}
 use Rattle.format.specs.Accepted.{none-plate-sheet}
 use Rattle.format.specs.Plate.{choiceOf}
 use Rattle.format.specs.ChoiceFlags.{held, Holds}
@@ -179,14 +179,6 @@ walk-read p sheet list bytes flags z fit up es el eb h =
     rw (es, eb)
     (follow-same (pointsOf (sheetOf p)) (held flags) (choiceOf (insideList p)) (λ i l. rw el at (h .at i (omega arith))) (outsidePairs p)
     ∙ walk-answers p z fit up)
-
--- ONE LIST OF QUESTIONS AFTER ANOTHER
-
-pub then-first : (first later r : ℕ) → r ≡ first → (r ≡ 0 → ⊥) → r ≡ thenNo first later
-then-first first later r e ne = rw (← e, ne-eqb r 0 ne)
-
-pub then-later : (first later r : ℕ) → first ≡ 0 → r ≡ later → r ≡ thenNo first later
-then-later first later r e q = rw e q
 
 -- WHAT IS HANDED BACK
 

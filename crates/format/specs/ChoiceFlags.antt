@@ -10,10 +10,9 @@ use borrow.Author.Tests.{eq-eqb, ne-eqb}
 use native.Mathlib.Numerals.{add-one}
 use native.Mathlib.Omega.{arith}
 use Rattle.labeling.specs.Points.{Points, Choice}
-use Rattle.labeling.specs.Tests.{same, or-right}
-use Rattle.labeling.specs.Margin.{among}
+use Rattle.labeling.specs.Tests.{same, or-right, or-false}
+use Rattle.labeling.specs.Margin.{among, among-last}
 use Rattle.format.specs.Plate.{choiceOf}
-use Rattle.format.specs.InsideList.{among-last, or-false}
 use Rattle.format.specs.declared.clash.Clash.{Clash}
 use Rattle.format.specs.FirstClash.{pairClash, firstOf, orderedClash, clashOf, firstClash}
 

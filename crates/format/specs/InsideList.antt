@@ -1,6 +1,6 @@
 -- The list of a choice and the choice of a list: an ascending list of positions below n is the list of just one choice. Assumes nothing.
-use mathlib.Core.Path.{_≡_, refl, sym, ap, _∙_}
-use mathlib.Core.Bool.{Bool, true, false, _||_}
+use mathlib.Core.Path.{_≡_, refl, sym, _∙_}
+use mathlib.Core.Bool.{true, false, _||_}
 use mathlib.Core.Logic.{inr}
 use mathlib.Core.List.{List, [], _∷_, _++_, append-nil}
 use Prim.Native.Nat.{ℕ, zero, suc, _≤_, _<_}
@@ -8,27 +8,13 @@ use lib.Dec.{ltb, eqb}
 use borrow.Author.Tests.{eq-eqb, ne-eqb}
 use native.Mathlib.Omega.{arith}
 use Rattle.labeling.specs.Points.{Points, Choice}
-use Rattle.labeling.specs.Tests.{not-both, decide, same, dec-lt, and-left, and-right, and-both, or-left, or-right}
-use Rattle.labeling.specs.Margin.{among, among-head, among-tail, among-rest, among-none}
+use Rattle.labeling.specs.Tests.{not-both, decide, same, dec-lt, and-left, and-right, and-both, or-left, or-right, or-false}
+use Rattle.labeling.specs.Margin.{among, among-head, among-tail, among-rest, among-none, among-last}
 use Rattle.labeling.specs.Order.{Ordered, ordered-unique}
 use Rattle.format.specs.Plate.{choiceOf, insideBelow}
 use Rattle.format.specs.PlateQuestions.{belowFirst, ascending}
 
 -- MEMBERS
-
-pub or-false : (b : Bool) → (b || false) ≡ b
-or-false true = refl
-or-false false = refl
-
--- one more position at the end
-pub among-last : (x m : ℕ) (l : List ℕ) → among x (l ++ m ∷ []) ≡ (among x l || eqb x m)
-unfolding among
-among-last x m [] = or-false (eqb x m)
-among-last x m (y ∷ l) = ap (λ t. eqb x y || t) (among-last x m l) ∙ or-assoc (eqb x y) (among x l) (eqb x m)
-  where
-    or-assoc : (a b c : Bool) → (a || (b || c)) ≡ ((a || b) || c)
-    or-assoc true b c = refl
-    or-assoc false b c = refl
 
 inside-none : (S : Choice) → insideBelow S zero ≡ []
 unfolding insideBelow

@@ -1,7 +1,7 @@
 -- `format::clash::stretches_overlap` meets its contract. Assumes nothing.
 use borrow.Author.Needs.{needs}
 use mathlib.Core.Path.{sym, _∙_}
-use Rattle.format.proofs.Laws.{and-no, and-yes}
+use Rattle.format.specs.Asking.{and-no, and-yes}
 use Rattle.format.proofs.clash.stretches_overlap.Statement.{statement}
 use Rattle.format.proofs.clash.stretches_overlap.Tie as tie
 

@@ -5,7 +5,7 @@ use lib.Dec.{leb}
 use lib.ListN.{length}
 use Rattle.format.specs.Sheet.{questionsNo, plateSheetNo}
 use Rattle.format.specs.PlateQuestions.{plateNo}
-use Rattle.format.proofs.PlateLaws.{then-first, then-later}
+use Rattle.format.specs.Asking.{then-first, then-later}
 use Rattle.format.proofs.plate.plate_no.Statement.{statement}
 use Rattle.format.proofs.plate.plate_no.Tie as tie
 
@@ -24,7 +24,7 @@ first-no c =
 
 returns : tie.Need-returns
 unfolding plateNo
-returns c = then-first _ _ _ (first-no (c .before)) (c .if1 .taken)
+returns c = then-first _ _ _ (λ z. c .if1 .taken (first-no (c .before) ∙ z)) (first-no (c .before))
 
 sections-no-requires : tie.Need-sections-no-requires
 sections-no-requires c κs = sym (first-no (c .before)) ∙ c .if1 .left
