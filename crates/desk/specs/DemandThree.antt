@@ -18,16 +18,16 @@ use Rattle.labeling.specs.Best.{weight, count, bestCount}
 use Rattle.labeling.specs.Agree.{valid-agree}
 use Rattle.labeling.specs.Greatest.{best-count-most}
 use Rattle.labeling.specs.Tests.{not-both, decide}
-use Rattle.format.specs.declared.clash.ClashKind.{ClashKind}
-use Rattle.format.specs.declared.clash.Clash.{Clash}
-use Rattle.format.specs.declared.clash.Clash.the-variants.{None, Between}
 use Rattle.format.specs.Sheet.{pointCount, pointsOf}
 use Rattle.format.specs.Accepted.{Accepted}
 use Rattle.format.specs.Plate.{choiceOf, insideBelow, plateOf}
-use Rattle.format.specs.FirstClash.{isClash, firstClash}
-use Rattle.format.specs.InsideList.{choice-of-list, inside-ascending}
 use Rattle.format.specs.PlateLength.{inside-length}
-use Rattle.format.specs.ClashPixels.{Named, FirstClashRight, first-clash-right}
+use Rattle.clash.specs.declared.ClashKind.{ClashKind}
+use Rattle.clash.specs.declared.Clash.{Clash}
+use Rattle.clash.specs.declared.Clash.the-variants.{None, Between}
+use Rattle.clash.specs.FirstClash.{isClash, firstClash}
+use Rattle.clash.specs.ClashPixels.{Named, FirstClashRight, first-clash-right}
+use Rattle.plate_reader.specs.InsideList.{choice-of-list, inside-ascending}
 use Rattle.plate_maker.specs.Making.{bestLength, makingNo, makeOutcome, makeOutcomeOf, workspaceAfter, BestOutput, Making}
 use Rattle.plate_maker.specs.declared.MakeAnswer.{MakeAnswer}
 use Rattle.plate_maker.specs.declared.MakeAnswer.the-variants.{Made, Refused}
@@ -194,7 +194,7 @@ pub record VerdictRight (s l : List ℕ) (v : Verdict) : Type 0 where
   -- which is not above the best count
   pub at-most : Valid (pointsOf s) (choiceOfList l) → listCount l ≤ bestCount (pointsOf s)
   -- "and for any other C the desk names the clash that document 01 fixes": the smallest first position, then the smallest second, that
-  -- share a pixel, with the kind labels exactly if both are inside (Named, of format's ClashPixels.antt)
+  -- share a pixel, with the kind labels exactly if both are inside (Named, of clash's ClashPixels.antt)
   pub clash : (first second : ℕ) (kind : ClashKind) → (v ≡ ClashVerdict first second kind) ↔ Named (pointsOf s) (choiceOfList l) first second kind
 
 -- A marked list: there is a last accepted sheet, the answer has the next number and a verdict, and the verdict is right.
