@@ -1,15 +1,15 @@
 // Runs the items on standard input and writes a line for each, with what document 01 fixes and nothing else. An item is a kind byte and
 // one part: a two-byte length, low byte first, and that many bytes. Kind 1 is a sheet, 2 a plate; 3 loads a sheet on the program's desk,
 // and 4 marks a list there. At an item that is cut short or of another kind it writes `bad item` and stops.
+use clash::ClashKind;
 use desk::Desk;
 use desk::LoadAnswer;
 use desk::MarkAnswer;
 use desk::Verdict;
-use format::ClashKind;
-use format::PlateAnswer;
 use libc::STDIN_FILENO;
 use libc::STDOUT_FILENO;
 use plate_maker::MakeAnswer;
+use plate_reader::PlateAnswer;
 ghost use Prim.Native.Nat.{_≤_};
 ghost use lib.ListN.{length};
 
@@ -47,7 +47,7 @@ fn inside_count(plate: &[u8]) -> u8 {
 }
 
 fn print_validity(plate: &[u8]) {
-    match format::read_plate(plate) {
+    match plate_reader::read_plate(plate) {
         PlateAnswer::Accepted(_) => print_word(b" valid"),
         PlateAnswer::Refused(_) => print_word(b" invalid"),
     }
@@ -85,10 +85,10 @@ fn print_positions(list: &[u8]) {
 
 fn run_plate(plate: &[u8]) {
     print_word(b"plate ");
-    match format::read_plate(plate) {
+    match plate_reader::read_plate(plate) {
         PlateAnswer::Accepted(_) => {
             print_word(b"accepted");
-            print_positions(format::inside_list(plate));
+            print_positions(plate_reader::inside_list(plate));
             end_line();
         }
         PlateAnswer::Refused(number) => print_refusal(number),

@@ -13,12 +13,12 @@ use Rattle.labeling.specs.Tests.{decide, same, Decides}
 use Rattle.labeling.specs.Best.{bestCount}
 use Rattle.format.specs.Sheet.{pointCount, pointsOf, sheetNo}
 use Rattle.format.specs.Accepted.{accepted}
-use Rattle.format.specs.declared.clash.ClashKind.{ClashKind}
-use Rattle.format.specs.declared.clash.Clash.{Clash}
-use Rattle.format.specs.declared.clash.Clash.the-variants.{None, Between}
 use Rattle.format.specs.Plate.{choiceOf}
-use Rattle.format.specs.FirstClash.{firstClash}
-use Rattle.format.specs.PlateQuestions.{insideCount}
+use Rattle.clash.specs.declared.ClashKind.{ClashKind}
+use Rattle.clash.specs.declared.Clash.{Clash}
+use Rattle.clash.specs.declared.Clash.the-variants.{None, Between}
+use Rattle.clash.specs.FirstClash.{firstClash}
+use Rattle.plate_reader.specs.PlateQuestions.{insideCount}
 use Rattle.format.specs.MakingQuestions.{buffersNo, makingNo, workspaceAfter}
 use Rattle.plate_maker.specs.Making.{makeOutcome, BestOutput, Making}
 use Rattle.plate_maker.specs.declared.MakeAnswer.{MakeAnswer}

@@ -17,17 +17,17 @@ use Rattle.labeling.specs.Marks.{Valid}
 use Rattle.labeling.specs.Best.{weight, count, bestCount}
 use Rattle.labeling.specs.Agree.{valid-agree}
 use Rattle.labeling.specs.Greatest.{best-count-most}
-use Rattle.labeling.specs.Tests.{clash, decide}
-use Rattle.format.specs.declared.clash.ClashKind.{ClashKind}
-use Rattle.format.specs.declared.clash.Clash.{Clash}
-use Rattle.format.specs.declared.clash.Clash.the-variants.{None, Between}
+use Rattle.labeling.specs.Tests.{not-both, decide}
 use Rattle.format.specs.Sheet.{pointCount, pointsOf}
 use Rattle.format.specs.Accepted.{Accepted}
 use Rattle.format.specs.Plate.{choiceOf, insideBelow, plateOf}
-use Rattle.format.specs.FirstClash.{isClash, firstClash}
-use Rattle.format.specs.InsideList.{choice-of-list, inside-ascending}
 use Rattle.format.specs.PlateLength.{inside-length}
-use Rattle.format.specs.ClashPixels.{Named, FirstClashRight, first-clash-right}
+use Rattle.clash.specs.declared.ClashKind.{ClashKind}
+use Rattle.clash.specs.declared.Clash.{Clash}
+use Rattle.clash.specs.declared.Clash.the-variants.{None, Between}
+use Rattle.clash.specs.FirstClash.{isClash, firstClash}
+use Rattle.clash.specs.ClashPixels.{Named, FirstClashRight, first-clash-right}
+use Rattle.plate_reader.specs.InsideList.{choice-of-list, inside-ascending}
 use Rattle.format.specs.MakingQuestions.{makingNo, workspaceAfter}
 use Rattle.plate_maker.specs.Making.{bestLength, makeOutcome, makeOutcomeOf, BestOutput, Making}
 use Rattle.plate_maker.specs.declared.MakeAnswer.{MakeAnswer}
@@ -195,7 +195,7 @@ pub record VerdictRight (s l : List ℕ) (v : Verdict) : Type 0 where
   -- which is not above the best count
   pub at-most : Valid (pointsOf s) (choiceOfList l) → listCount l ≤ bestCount (pointsOf s)
   -- "and for any other C the desk names the clash that document 01 fixes": the smallest first position, then the smallest second, that
-  -- share a pixel, with the kind labels exactly if both are inside (Named, of format's ClashPixels.antt)
+  -- share a pixel, with the kind labels exactly if both are inside (Named, of clash's ClashPixels.antt)
   pub clash : (first second : ℕ) (kind : ClashKind) → (v ≡ ClashVerdict first second kind) ↔ Named (pointsOf s) (choiceOfList l) first second kind
 
 -- A marked list: there is a last accepted sheet, the answer has the next number and a verdict, and the verdict is right.
@@ -255,10 +255,10 @@ module _ (s l : List ℕ) (a : Accepted s) (f : Listed (pointCount s) l) where
         valid-exactly = (λ t. c .none .0 e, λ v. refl);
         valid = λ v. refl;
         at-most = list-at-most;
-        clash = λ i j k. (λ q. absurd (clash refl (ap calledValid q)), λ n. absurd (apart (sym e ∙ c .between i j k .1 n)));
+        clash = λ i j k. (λ q. absurd (not-both refl (ap calledValid q)), λ n. absurd (apart (sym e ∙ c .between i j k .1 n)));
       }
       which (Between i j k) e = record {
-        valid-exactly = (λ t. absurd (clash t refl), λ v. absurd (apart (sym (c .none .1 v) ∙ e)));
+        valid-exactly = (λ t. absurd (not-both t refl), λ v. absurd (apart (sym (c .none .1 v) ∙ e)));
         valid = λ v. absurd (apart (sym (c .none .1 v) ∙ e));
         at-most = list-at-most;
         clash = λ a b m. (
@@ -443,7 +443,7 @@ marked-right calls l z = by (lastSheet calls) refl
     asked = none-mark _ _ _ _ .is z
 
     by : (o : Option (List ℕ)) → lastSheet calls ≡ o → MarkedRight calls l
-    by none e = absurd (clash (asked .0 .0) (t .loaded ∙ ap isSome e))
+    by none e = absurd (not-both (asked .0 .0) (t .loaded ∙ ap isSome e))
     by (some s) e =
         let h : SheetHeld d (some s) = rw e at (t .sheet) in
         let f : Listed (pointCount s) l = rw e at (asked .0 .1) in

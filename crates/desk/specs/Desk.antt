@@ -7,12 +7,12 @@ use Prim.Native.Nat.{ℕ, _-_}
 use lib.Dec.{eqb}
 use lib.ListN.{length, replicate}
 use Rattle.labeling.specs.Best.{bestCount}
-use Rattle.format.specs.declared.clash.Clash.{Clash}
-use Rattle.format.specs.declared.clash.Clash.the-variants.{None, Between}
 use Rattle.format.specs.Sheet.{pointCount, pointsOf}
 use Rattle.format.specs.Answers.{Outcome}
 use Rattle.format.specs.Plate.{choiceOf}
-use Rattle.format.specs.FirstClash.{firstClash}
+use Rattle.clash.specs.declared.Clash.{Clash}
+use Rattle.clash.specs.declared.Clash.the-variants.{None, Between}
+use Rattle.clash.specs.FirstClash.{firstClash}
 use Rattle.desk.specs.Questions.{loadNo, positions, listCount, nextNumber, markNo}
 use Rattle.desk.specs.declared.Desk.{Desk}
 use Rattle.desk.specs.declared.LoadAnswer.{LoadAnswer}

@@ -14,8 +14,8 @@ use Rattle.format.specs.Sheet.{pointCount, pointsOf}
 use Rattle.format.specs.Accepted.{NoneOf, none-ask, none-left}
 use Rattle.format.specs.Plate.{choiceOf}
 use Rattle.format.specs.PlateLength.{inside-length}
-use Rattle.format.specs.PlateQuestions.{belowFirst, ascending}
-use Rattle.format.specs.InsideList.{ascending-head, list-of-choice}
+use Rattle.plate_reader.specs.PlateQuestions.{belowFirst, ascending}
+use Rattle.plate_reader.specs.InsideList.{ascending-head, list-of-choice}
 use Rattle.desk.specs.Questions.{positions, listCount, countRight, aboveBefore, entryNo, entriesNo, listNo}
 
 -- ENTRY BY ENTRY

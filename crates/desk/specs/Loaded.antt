@@ -15,8 +15,8 @@ use Rattle.format.specs.Sheet.{twoBytes, pointCount, pointsOf}
 use Rattle.format.specs.Accepted.{Accepted}
 use Rattle.format.specs.Plate.{insideBelow, insideSection, outsideSection, pairs, plateOf}
 use Rattle.format.specs.PlateLength.{inside-length, inside-outside, plate-length}
-use Rattle.format.specs.PlateQuestions.{sheetLength, insideCount}
-use Rattle.format.specs.PlateSections.{Parts, read-back}
+use Rattle.plate_reader.specs.PlateQuestions.{sheetLength, insideCount}
+use Rattle.plate_reader.specs.PlateSections.{Parts, read-back}
 use Rattle.plate_maker.specs.Making.{bestLength}
 use Rattle.desk.specs.Desk.{padded}
 

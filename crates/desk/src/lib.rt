@@ -1,5 +1,5 @@
 // The marking desk.
-use format::ClashKind;
+use clash::ClashKind;
 use loading::blank_plate;
 use loading::inside_count;
 use loading::no_sheet;

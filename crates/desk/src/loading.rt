@@ -5,7 +5,7 @@ use crate::LoadResult;
 ghost use mathlib.Core.Path.{_≡_};
 ghost use Prim.Native.Nat.{_≤_};
 ghost use lib.ListN.{length};
-ghost use Rattle.format.specs.PlateQuestions.{insideCount};
+ghost use Rattle.plate_reader.specs.PlateQuestions.{insideCount};
 ghost use Rattle.desk.specs.Desk.{noSheet, padded, refusedLoad, withSheet};
 ghost use Rattle.desk.specs.Blank.{blankPlate};
 

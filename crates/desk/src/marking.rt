@@ -5,8 +5,8 @@ use crate::MarkResult;
 use crate::Verdict;
 use crate::numbering::next_number;
 use crate::questions::mark_no;
-use format::Clash;
-use format::ClashKind;
+use clash::Clash;
+use clash::ClashKind;
 ghost use mathlib.Core.Path.{_≡_};
 ghost use Prim.Native.Nat.{_-_};
 ghost use Rattle.desk.specs.Questions.{listCount};
@@ -48,7 +48,7 @@ fn verdict_on(desk: Desk, list: &[u8]) -> Verdict
     ensures { λ r. ⌜ r ≡ verdictOf desk (now (list .entry)) ⌝ }
 {
     let sheet = desk.sheet;
-    match format::first_clash(&sheet, &list[1..]) {
+    match clash::first_clash(&sheet, &list[1..]) {
         Clash::Between {
             first,
             second,

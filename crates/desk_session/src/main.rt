@@ -1,11 +1,11 @@
 // Runs the script on standard input on a fresh desk and writes a line for each call. A call is a kind byte and one part: a two-byte
 // length, low byte first, and that many bytes. Kind 1 loads a sheet, kind 2 marks a list. At a call that is cut short or of another kind
 // it writes `bad call` and stops.
+use clash::ClashKind;
 use desk::Desk;
 use desk::LoadAnswer;
 use desk::MarkAnswer;
 use desk::Verdict;
-use format::ClashKind;
 use libc::STDIN_FILENO;
 use libc::STDOUT_FILENO;
 ghost use Prim.Native.Nat.{_≤_};

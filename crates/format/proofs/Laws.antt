@@ -1,29 +1,16 @@
 -- Facts about the tests of a sheet, for the proofs of this crate. Assumes nothing.
-use mathlib.Core.Path.{_≡_, refl, sym, ap, _∙_}
-use mathlib.Core.Bool.{Bool, true, false, not, _&&_}
+use mathlib.Core.Path.{_≡_, refl, _∙_}
+use mathlib.Core.Bool.{true, false, not}
 use mathlib.Core.List.{List}
-use Prim.Native.Nat.{ℕ, zero, suc, _+_, _≤_, _<_}
-use lib.Dec.{ltb, leb, eqb}
-use borrow.Author.Tests.{lt-ltb, le-ltb, eq-eqb, ne-eqb}
+use Prim.Native.Nat.{ℕ, zero, suc, _+_, _<_}
+use lib.Dec.{eqb}
+use borrow.Author.Tests.{eq-eqb, ne-eqb}
 use native.Mathlib.Omega.{arith}
 use native.Mathlib.Numerals.{add-one}
-use Rattle.labeling.specs.Points.{Points, Choice}
-use Rattle.labeling.specs.Conflicts.{every, overlapB, hitsB}
-use Rattle.labeling.specs.Tests.{clash, decide, same, every-is}
-use Rattle.format.specs.declared.clash.ClashKind.the-variants.{Labels, LabelAndLeader}
-use Rattle.format.specs.declared.clash.Clash.{Clash}
-use Rattle.format.specs.declared.clash.Clash.the-variants.{None, Between}
+use Rattle.labeling.specs.Conflicts.{every}
+use Rattle.labeling.specs.Tests.{not-both, decide, same, every-is}
 use Rattle.format.specs.Answers.{outcomeOf}
 use Rattle.format.specs.Sheet.{unlikeEarlier, pointNo, pointsNo}
-use Rattle.format.specs.FirstClash.{isClash, orElse, clashIf, pairClash, firstOf, orderedClash}
-use Rattle.format.specs.ClashPixels.{first-none, none-first}
-
--- two tests one after the other: the first fails, or the second decides
-pub and-no : (a b : Bool) → a ≡ false → false ≡ (a && b)
-and-no a b e = rw e
-
-pub and-yes : (a b r : Bool) → a ≡ true → r ≡ b → r ≡ (a && b)
-and-yes a b r e q = rw e q
 
 -- one earlier position with the same number: not unlike every earlier one
 pub not-unlike : (f : ℕ → ℕ) (i j : ℕ) → j < i → f j ≡ f i → unlikeEarlier f i ≡ false
@@ -31,7 +18,7 @@ unfolding unlikeEarlier
 not-unlike f i j l e =
     decide (every (λ j. not (eqb (f j) (f i))) i)
     (λ t. let z : not (eqb (f j) (f i)) ≡ true = every-is (λ j. not (eqb (f j) (f i))) i t j l in
-    let y : not true ≡ true = rw (eq-eqb (f j) (f i) e) at z in absurd (clash y refl))
+    let y : not true ≡ true = rw (eq-eqb (f j) (f i) e) at z in absurd (not-both y refl))
     (λ t. t)
 
 -- POINT BY POINT
@@ -51,90 +38,6 @@ points-first s m (suc k) e ne l =
     (λ no.
     let ih : pointNo s m ≡ pointsNo s k = points-first s m k e ne (omega arith) in
     rw (ne-eqb (pointsNo s k) 0 (λ z. ne (ih ∙ z))) ih)
-
--- TWO LABELS, by their columns and then their rows
-
-abbrev pub columnsMeet : Points → ℕ → ℕ → Bool
-columnsMeet P i j = ltb (P .column i) (P .column j + P .w) && ltb (P .column j) (P .column i + P .w)
-
-abbrev pub rowsMeet : Points → ℕ → ℕ → Bool
-rowsMeet P i j = ltb (P .row i) (P .row j + P .h) && ltb (P .row j) (P .row i + P .h)
-
-pub overlap-no : (P : Points) (i j : ℕ) → columnsMeet P i j ≡ false → false ≡ overlapB P i j
-overlap-no P i j e = rw e
-
-pub overlap-rows : (P : Points) (i j : ℕ) (r : Bool) → columnsMeet P i j ≡ true → r ≡ rowsMeet P i j → r ≡ overlapB P i j
-overlap-rows P i j r e q = rw e (q ∙ two (ltb (P .row i) (P .row j + P .h)) _)
-  where
-    two : (a b : Bool) → (a && b) ≡ (true && a && b)
-    two a b = refl
-
--- A LABEL AND A LEADER
-
-pub hits-below : (P : Points) (i j : ℕ) → leb (P .row i) (P .row j) ≡ false → false ≡ hitsB P i j
-hits-below P i j e = rw e
-
-pub hits-above : (P : Points) (i j : ℕ) → leb (P .row i) (P .row j) ≡ true → ltb (P .row j) (P .row i + P .h) ≡ false → false ≡ hitsB P i j
-hits-above P i j e q = rw (e, q)
-
-pub hits-columns : (P : Points) (i j : ℕ) (r : Bool) → leb (P .row i) (P .row j) ≡ true → ltb (P .row j) (P .row i + P .h) ≡ true → r ≡ leb (P .column i) (P .column j) → r ≡ hitsB P i j
-hits-columns P i j r e q c = rw (e, q) c
-
--- A PAIR'S CLASH, by where the two points are labeled
-
-pub pair-labels : (P : Points) (S : Choice) (i j : ℕ) (r : Clash) → S i ≡ true → S j ≡ true → r ≡ clashIf (overlapB P i j) i j Labels → r ≡ pairClash P S i j
-unfolding pairClash
-pair-labels P S i j r a b e = rw (a, b) e
-
-pub pair-leader-second : (P : Points) (S : Choice) (i j : ℕ) (r : Clash) → S i ≡ true → S j ≡ false → r ≡ clashIf (hitsB P i j) i j LabelAndLeader → r ≡ pairClash P S i j
-unfolding pairClash
-pair-leader-second P S i j r a b e = rw (a, b) e
-
-pub pair-leader-first : (P : Points) (S : Choice) (i j : ℕ) (r : Clash) → S i ≡ false → S j ≡ true → r ≡ clashIf (hitsB P j i) i j LabelAndLeader → r ≡ pairClash P S i j
-unfolding pairClash
-pair-leader-first P S i j r a b e = rw (a, b) e
-
-pub pair-leaders : (P : Points) (S : Choice) (i j : ℕ) → S i ≡ false → S j ≡ false → None ≡ pairClash P S i j
-unfolding pairClash
-pair-leaders P S i j a b = rw (a, b)
-
--- THE FIRST CLASH, one by one
-
-no-clash : (c : Clash) → isClash c ≡ false → c ≡ None
-no-clash None e = refl
-no-clash (Between i j k) e = absurd (clash refl e)
-
-or-clash : (c d : Clash) → isClash c ≡ true → c ≡ orElse c d
-or-clash None d e = absurd (clash e refl)
-or-clash (Between i j k) d e = refl
-
--- one more without a clash
-pub first-more : (f : ℕ → Clash) (m : ℕ) → firstOf f m ≡ None → isClash (f m) ≡ false → firstOf f (m + 1) ≡ None
-unfolding firstOf
-first-more f m e n = rw (add-one, e) (no-clash (f m) n)
-
--- the first with a clash decides
-pub first-found : (f : ℕ → Clash) (m k : ℕ) → firstOf f m ≡ None → isClash (f m) ≡ true → m < k → f m ≡ firstOf f k
-unfolding firstOf
-first-found f m zero e y l = absurd (omega arith)
-first-found f m (suc k) e y l =
-    same m k
-    (λ q. rw (← q, e))
-    (λ ne.
-    let ih : f m ≡ firstOf f k = first-found f m k e y (omega arith) in
-    ih ∙ or-clash (firstOf f k) (f k) (ap isClash (sym ih) ∙ y))
-
--- no clash up to the end
-pub first-stop : (f : ℕ → Clash) (m k : ℕ) → k ≤ m → firstOf f m ≡ None → firstOf f k ≡ None
-first-stop f m k l e = first-none f k (λ i b. none-first f m e i (omega arith))
-
--- a position and one above it
-pub ordered-above : (P : Points) (S : Choice) (i j : ℕ) → i < j → orderedClash P S i j ≡ pairClash P S i j
-ordered-above P S i j l = rw (lt-ltb i j l)
-
--- no clash of a position with itself and those below
-pub ordered-below : (P : Points) (S : Choice) (i : ℕ) → firstOf (orderedClash P S i) (i + 1) ≡ None
-ordered-below P S i = first-none (orderedClash P S i) (i + 1) (λ j l. rw (le-ltb i j (omega arith)))
 
 -- THE ANSWER of a call whose first no is k
 

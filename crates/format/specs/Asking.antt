@@ -1,6 +1,6 @@
 -- Facts about questions: what a number is where an answer is no, and where it is yes. Assumes nothing.
 use mathlib.Core.Path.{_≡_, sym, _∙_}
-use mathlib.Core.Bool.{Bool, true, false, not}
+use mathlib.Core.Bool.{Bool, true, false, not, _&&_}
 use Prim.Native.Nat.{ℕ}
 use lib.Dec.{eqb}
 use borrow.Author.Tests.{eq-eqb, ne-eqb, eqb-true, eqb-false, not-true, not-false}
@@ -21,6 +21,13 @@ off r b e t = sym e ∙ not-true r t
 
 pub on : (r b : Bool) → r ≡ b → not r ≡ false → b ≡ true
 on r b e t = sym e ∙ not-false r t
+
+-- TWO TESTS, one after the other: the first fails, or the second decides
+pub and-no : (a b : Bool) → a ≡ false → false ≡ (a && b)
+and-no a b e = rw e
+
+pub and-yes : (a b r : Bool) → a ≡ true → r ≡ b → r ≡ (a && b)
+and-yes a b r e q = rw e q
 
 -- TWO LISTS OF QUESTIONS: the first has no no, and the later decides; or the first has one
 pub then-later : (first later x : ℕ) → first ≡ 0 → x ≡ later → x ≡ thenNo first later

@@ -5,7 +5,7 @@ use mathlib.Core.List.{List, [], _∷_}
 use Prim.Native.Nat.{ℕ}
 use lib.Dec.{eqb}
 use borrow.Author.Tests.{eqb-true, eq-eqb}
-use Rattle.labeling.specs.Tests.{clash, and-left, and-right, and-both, Decides}
+use Rattle.labeling.specs.Tests.{not-both, and-left, and-right, and-both, Decides}
 
 abbrev pub sameBytes : List ℕ → List ℕ → Bool
 sameBytes [] [] = true
@@ -15,8 +15,8 @@ sameBytes (x ∷ k) (y ∷ l) = eqb x y && sameBytes k l
 
 bytes-is : (k l : List ℕ) → sameBytes k l ≡ true → k ≡ l
 bytes-is [] [] e = refl
-bytes-is [] (y ∷ l) e = absurd (clash e refl)
-bytes-is (x ∷ k) [] e = absurd (clash e refl)
+bytes-is [] (y ∷ l) e = absurd (not-both e refl)
+bytes-is (x ∷ k) [] e = absurd (not-both e refl)
 bytes-is (x ∷ k) (y ∷ l) e =
     let h : x ≡ y = eqb-true x y (and-left _ _ e) in
     let t : k ≡ l = bytes-is k l (and-right (eqb x y) _ e) in

@@ -9,16 +9,3 @@ pub mod Start
 pub mod MakingQuestions
 pub mod PlateLength
 pub mod PlateBytes
-pub mod FirstClash
-pub mod ClashPixels
-pub mod ChoiceFlags
-pub mod PlateQuestions
-pub mod OutsideWalk
-pub mod InsideList
-pub mod PlateSections
-pub mod PlateWalk
-pub mod PlateAnswers
-pub mod DemandTwoReader
-pub mod Cases
-pub mod CasePixels
-pub mod Refusals

@@ -1,18 +1,9 @@
 // The bytes of sheets and plates.
-mod clash;
-mod plate;
-
-pub use clash::Clash;
-pub use clash::ClashKind;
-pub use clash::first_clash;
-pub use plate::PlateAnswer;
-pub use plate::inside_list;
-pub use plate::read_plate;
 ghost use mathlib.Core.Path.{_≡_};
 ghost use Prim.Native.Nat.{_+_, _*_, _<_};
 ghost use mathlib.Core.Bool.{_&&_};
 ghost use lib.Dec.{ltb};
-ghost use lib.ListN.{length, getD};
+ghost use lib.ListN.{getD};
 ghost use Rattle.format.specs.Sheet.{twoBytes, mapWidth, mapHeight, labelWidth, labelHeight, pointCount, callNumber, column as columnOf, row as rowOf, upTo, unlikeEarlier, pointNo, pointsNo, questionsNo, sheetNo};
 ghost use Rattle.format.specs.Answers.{sheetOutcome, outcomeOf};
 use reader::SheetPoint;
@@ -188,7 +179,7 @@ fn points_no(sheet: &[u8]) -> u8
 }
 
 // The first no of 11 to 20, 0 for none, where `fits` answers 16.
-fn questions_no(sheet: &[u8], fits: bool) -> u8
+pub fn questions_no(sheet: &[u8], fits: bool) -> u8
     ensures { λ r. ⌜ r ≡ questionsNo (now (sheet .entry)) fits ⌝ }
 {
     if sheet.len() < 10 {
@@ -213,7 +204,7 @@ fn questions_no(sheet: &[u8], fits: bool) -> u8
 }
 
 // The sheet's bytes that its point count asks for.
-fn sheet_length(sheet: &[u8]) -> usize
+pub fn sheet_length(sheet: &[u8]) -> usize
     ensures { λ r. ⌜ (r ≡ 10 + 6 * pointCount (now (sheet .entry))) × (r < 2000) ⌝ }
 {
     10 + 6 * point_count(sheet) as usize

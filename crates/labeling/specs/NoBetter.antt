@@ -4,7 +4,7 @@ use mathlib.Core.Path.{_≡_, ap}
 use mathlib.Core.Bool.{Bool, true, false}
 use Prim.Native.Nat.{ℕ, zero, suc, _+_, _≤_, _<_}
 use native.Mathlib.Omega.{arith}
-use Rattle.labeling.specs.Tests.{clash, decide, same}
+use Rattle.labeling.specs.Tests.{not-both, decide, same}
 use Rattle.labeling.specs.Recurrence.{Heights, Point, Sorted, Free, between, reach, value, openWeight}
 use Rattle.labeling.specs.RecurrenceTests.{less, dec-false, Between, dec-between, Reaches, reach-is, reach-newer, reach-older, Good, dec-good, dec-clear, CanOut, CanIn, value-zero, value-skip, value-step, out-of, in-of, open-zero, open-skip, open-out, open-in}
 use Rattle.labeling.specs.States.{Matches, two-overlap, reaches-lower, ends-below, match-same, match-low, match-high, reach-in, reach-reaches}
@@ -20,11 +20,11 @@ open-split H S (suc t) a b p e k =
     (λ y. let y′ = dec-between a x b .is y in less x p
     (λ l. omega (arith, ih, open-in H S t a b y z, open-in H S t a p (dec-between a x p .of (record { low = y′ .low; high = l })) z, open-skip H S t p b (dec-false (dec-between p x b) (λ m. omega (arith, m .low)))))
     (λ l.
-    let ne : x ≡ p → ⊥ = λ m. clash z (rw m e) in
+    let ne : x ≡ p → ⊥ = λ m. not-both z (rw m e) in
     omega (arith, ih, open-in H S t a b y z, open-in H S t p b (dec-between p x b .of (record { low = omega arith; high = y′ .high })) z, open-skip H S t a p (dec-false (dec-between a x p) (λ m. omega (arith, m .high))))))
     (λ y.
-    let n₁ : Between a x p → ⊥ = λ m. clash (dec-between a x b .of (record { low = m .low; high = omega (arith, m .high, k .high) })) y in
-    let n₂ : Between p x b → ⊥ = λ m. clash (dec-between a x b .of (record { low = omega (arith, m .low, k .low); high = m .high })) y in
+    let n₁ : Between a x p → ⊥ = λ m. not-both (dec-between a x b .of (record { low = m .low; high = omega (arith, m .high, k .high) })) y in
+    let n₂ : Between p x b → ⊥ = λ m. not-both (dec-between a x b .of (record { low = omega (arith, m .low, k .low); high = m .high })) y in
     omega (arith, ih, open-skip H S t a b y, open-skip H S t a p (dec-false (dec-between a x p) n₁), open-skip H S t p b (dec-false (dec-between p x b) n₂))))
     (λ z. omega (arith, ih, open-out H S t a b z, open-out H S t a p z, open-out H S t p b z))
 
@@ -55,7 +55,7 @@ module _ {H : Heights} (L : Sorted H) {S : ℕ → Bool} (ok : Free H S) where
           (λ l.
           let low : 1 ≤ i = m .low in
           let out : S a ≡ false = s .a-out (omega arith) in
-          let ne : i ≡ a → ⊥ = λ z. clash f (rw z out) in
+          let ne : i ≡ a → ⊥ = λ z. not-both f (rw z out) in
           let pa : Point H a = record { low = omega arith; high = omega (arith, k .low, pp .high) } in
           let pi : Point H i = record { low = low; high = omega (arith, pa .high) } in
           let e : i ≡ q = only .is i f (reaches-lower L i a p pa pp (omega arith) (k .low) (omega (arith, s .a-rank (pa .low), L .rank-atRank t (s .t-le))) m (ok .leaders i a pi pa f out)) in
@@ -104,5 +104,5 @@ module _ {H : Heights} (L : Sorted H) {S : ℕ → Bool} (ok : Free H S) where
       } in
       omega (arith, open-out H S t a b e, open-split H S t a b p e k, value-step H t a b q z, out-of H t a b q c, ih₁, ih₂)))
       (λ z.
-      let ih = no-better t a b q (match-same L s (λ k. absurd (clash (dec-between a p b .of k) z))) only in
+      let ih = no-better t a b q (match-same L s (λ k. absurd (not-both (dec-between a p b .of k) z))) only in
       omega (arith, open-skip H S t a b z, value-skip H t a b q z, ih))

@@ -10,7 +10,7 @@ use native.Mathlib.Omega.{arith}
 use Rattle.labeling.specs.Points.{Points, Choice}
 use Rattle.labeling.specs.Marks.{Valid}
 use Rattle.labeling.specs.Conflicts.{validB, every}
-use Rattle.labeling.specs.Tests.{clash, decide, and-left, and-right, or-is, every-is}
+use Rattle.labeling.specs.Tests.{not-both, decide, and-left, and-right, or-is, every-is}
 use Rattle.labeling.specs.Pixels.{dec-valid}
 use Rattle.labeling.specs.Best.{weight, Agree, OnlyBest, put}
 use Rattle.labeling.specs.Agree.{valid-agree, weight-agree}
@@ -56,7 +56,7 @@ behindB-is P v S R pos e ok = rest (or-is _ _ (drop (validB P R) _ e (dec-valid 
   where
     drop : (a b : Bool) → (not a || b) ≡ true → a ≡ true → b ≡ true
     drop true b e k = e
-    drop false b e k = absurd (clash k refl)
+    drop false b e k = absurd (not-both k refl)
 
     rest : (ltb (weight P v R) (weight P v S) ≡ true) ⊎ (agreeB P R S ≡ true) → (weight P v R < weight P v S) ⊎ Agree P R S
     rest (inl x) = inl (ltb-true _ _ x)

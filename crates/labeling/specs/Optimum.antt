@@ -5,7 +5,7 @@ use mathlib.Core.Bool.{Bool, false}
 use mathlib.Core.Logic.{_↔_}
 use Prim.Native.Nat.{ℕ, suc, _≤_, _<_}
 use native.Mathlib.Omega.{arith}
-use Rattle.labeling.specs.Tests.{clash, same}
+use Rattle.labeling.specs.Tests.{not-both, same}
 use Rattle.labeling.specs.Recurrence.{Heights, Point, Sorted, Free, total, value, recovered}
 use Rattle.labeling.specs.RecurrenceTests.{less}
 use Rattle.labeling.specs.States.{Matches, overlap-sym, upper-misses}
@@ -74,7 +74,7 @@ module _ (H : Heights) (L : Sorted H) where
       let o = open-point in
       record {
         labels = λ i j pi pj ne e f x. less i j (λ l. c .both i j (o i pi) (o j pj) l e f x) (λ l. c .both j i (o j pj) (o i pi) (omega arith) f e (overlap-sym x));
-        leaders = λ i j pi pj e f x. same i j (λ z. clash e (rw z f)) (λ ne. less i j
+        leaders = λ i j pi pj e f x. same i j (λ z. not-both e (rw z f)) (λ ne. less i j
             (λ l. c .leaders i j (o i pi) e l (omega (arith, pj .high)) pj f x)
             (λ l. upper-misses L i j pi pj (omega arith) x));
         rows = λ i j pi pj ne e f x. less i j
@@ -93,9 +93,9 @@ module _ (H : Heights) (L : Sorted H) where
       omega (
         arith,
         upper (λ _. false) (record {
-          labels = λ i j pi pj ne e f x. clash e refl;
-          leaders = λ i j pi pj e f x. clash e refl;
+          labels = λ i j pi pj ne e f x. not-both e refl;
+          leaders = λ i j pi pj e f x. not-both e refl;
           rows = λ i j pi pj ne e f x. ne (k i j pi pj x);
-          allowed = λ i pi e. absurd (clash e refl);
+          allowed = λ i pi e. absurd (not-both e refl);
         }),
       )

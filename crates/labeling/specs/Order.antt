@@ -10,7 +10,7 @@ use lib.Dec.{ltb}
 use lib.ListN.{length}
 use native.Mathlib.Omega.{arith}
 use Rattle.labeling.specs.Points.{Points, Choice, Distinct, before, insert, outsideBelow, outside, nextMargin, placedFrom, placed, marginIn, marginColumn}
-use Rattle.labeling.specs.Tests.{clash, decide, same, Decides, dec-lt, dec-eq, dec-and, dec-or}
+use Rattle.labeling.specs.Tests.{not-both, decide, same, Decides, dec-lt, dec-eq, dec-and, dec-or}
 use Rattle.labeling.specs.Margin.{among, among-head, among-tail, among-rest, among-none, outside-lists, margin-head, margin-tail}
 use Rattle.labeling.specs.Best.{weightBelow, oneEach}
 
@@ -46,7 +46,7 @@ before-total P i j d e =
     (λ ne. let x : P .row j ≤ P .row i = borrow.Author.Tests.ltb-false _ _ a in absurd (not-yet (inl (omega arith)))))
   where
     not-yet : Before P i j → ⊥
-    not-yet b = clash (dec-before P i j .of b) e
+    not-yet b = not-both (dec-before P i j .of b) e
 
 -- JUST THE OUTSIDE POSITIONS
 

@@ -10,7 +10,7 @@ use Rattle.labeling.specs.Points.{Points, Choice}
 use Rattle.labeling.specs.Marks.{Valid}
 use Rattle.labeling.specs.Conflicts
 use Rattle.labeling.specs.Conflicts.{Conflict}
-use Rattle.labeling.specs.Tests.{clash, decide, same, dec-eq}
+use Rattle.labeling.specs.Tests.{not-both, decide, same, dec-eq}
 use Rattle.labeling.specs.Pixels.{valid-iff-free}
 use Rattle.labeling.specs.Best.{weightBelow, weight, Best, best}
 use Rattle.labeling.specs.Greatest.{best-reached, best-is, best-unique}
@@ -88,7 +88,7 @@ module _ {P : Points} {v : ℕ → ℕ} {H : Heights} {position : ℕ → ℕ} (
     unfolding Conflict
     free-there f = record {
       labels = λ i j pi pj ne e g o. apart i j pi pj ne (rw (s .at i pi, s .at j pj, e, g) (overlap-there i j pi pj o));
-      leaders = λ i j pi pj e g o. apart i j pi pj (λ z. clash e (rw z g)) (rw (s .at i pi, s .at j pj, e, g) (hits-there i j pi pj o));
+      leaders = λ i j pi pj e g o. apart i j pi pj (λ z. not-both e (rw z g)) (rw (s .at i pi, s .at j pj, e, g) (hits-there i j pi pj o));
       rows = λ i j pi pj ne e g o. apart i j pi pj ne (rw (s .at i pi, s .at j pj, e, g) (sym (A .row i pi) ∙ (o ∙ A .row j pj)));
       allowed = λ i pi e. all .allowed i pi;
     }

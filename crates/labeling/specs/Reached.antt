@@ -4,7 +4,7 @@ use mathlib.Core.Path.{_≡_, refl, sym, _∙_, ap}
 use mathlib.Core.Bool.{Bool, true, false}
 use Prim.Native.Nat.{ℕ, zero, suc, _+_, _≤_, _<_}
 use native.Mathlib.Omega.{arith}
-use Rattle.labeling.specs.Tests.{clash, decide, same}
+use Rattle.labeling.specs.Tests.{not-both, decide, same}
 use Rattle.labeling.specs.Recurrence.{Heights, Point, Sorted, Overlap, Hits, between, reach, value, takesIn}
 use Rattle.labeling.specs.RecurrenceTests.{less, Between, dec-between, Reaches, Reached, newer, older, nobody, reach-is, reach-newer, reach-older, Good, dec-good, dec-clear, value-skip}
 use Rattle.labeling.specs.States.{overlap-sym, rank-is, right-of, right-misses, ends-below, overlap-reaches, two-overlap, Matches, inner, match-same, match-low, match-high, reach-reaches}
@@ -109,7 +109,7 @@ module _ {H : Heights} (L : Sorted H) {S : ℕ → Bool} {t a b q : ℕ} (s : Ma
         (λ y. right-misses L (H .atRank t) i pp pi l (omega (arith, rp)) o)
         (λ y.
         let ne : H .rank i ≡ t → ⊥ = λ n. omega (arith, rank-is L t i pi n) in
-        clash (s .right i (omega (arith, k .low)) z (omega arith)) v))
+        not-both (s .right i (omega (arith, k .low)) z (omega arith)) v))
         (λ z.
         let i=b : i ≡ b = omega arith in
         omega (arith, g .top (omega (arith, pi .high)), o .to, ap (H .row) i=b))
@@ -122,7 +122,7 @@ module _ {H : Heights} (L : Sorted H) {S : ℕ → Bool} {t a b q : ℕ} (s : Ma
           (λ j=p. open-or i y (λ i=p. omega arith) (λ y′. c .known i (H .atRank t) y′ v in-known (overlap-sym (rw j=p at o))))
           (λ x′. open-or i y (λ i=p. c .known j (H .atRank t) x′ z in-known (rw i=p at o)) (λ y′. c .both j i x′ y′ l z v o));
       leaders = λ j i x z l u pi v o. open-or j x (λ j=p. in-leaders i (rw j=p at l) u pi v (rw j=p at o)) (λ x′. c .leaders j i x′ z l u pi v o);
-      rows = λ j i x z l u pi v o. open-or j x (λ j=p. clash e (rw (← j=p) z)) (λ x′. c .rows j i x′ z l u pi v o);
+      rows = λ j i x z l u pi v o. open-or j x (λ j=p. not-both e (rw (← j=p) z)) (λ x′. c .rows j i x′ z l u pi v o);
       allowed = λ j x z. open-or j x (λ j=p. rw j=p (g .allowed)) (λ x′. c .allowed j x′ z);
     }
 
@@ -191,7 +191,7 @@ module _ {H : Heights} (L : Sorted H) {S : ℕ → Bool} {t a b q : ℕ} (s : Ma
 
       -- An open inside point is open in one of the parts.
       place-in : {X : Type 0} (j : ℕ) → Open H (suc t) a b j → S j ≡ true → (Open H t a (H .atRank t) j → X) → (Open H t (H .atRank t) b j → X) → X
-      place-in j x z f g = open-or j x (λ j=p. absurd (clash z (rw j=p e))) (λ x′. place j x′ f g)
+      place-in j x z f g = open-or j x (λ j=p. absurd (not-both z (rw j=p e))) (λ x′. place j x′ f g)
 
       -- An open inside point above it overlaps no point known to be inside.
       high-fixed : (j i : ℕ) → Open H t (H .atRank t) b j → S j ≡ true → Known H (suc t) a b q i → Overlap H j i → ⊥
@@ -234,7 +234,7 @@ module _ {H : Heights} (L : Sorted H) {S : ℕ → Bool} {t a b q : ℕ} (s : Ma
       alone : (i : ℕ) → H .atRank t < i → i ≤ b → Point H i → S i ≡ false → H .row (H .atRank t) ≡ H .row i → ⊥
       alone i l u pi v o =
           less i b
-          (λ z. clash (s .right i (omega (arith, k .low)) z (right-of L t i (s .t-le) pi (L .beside (H .atRank t) i pp pi l o))) v)
+          (λ z. not-both (s .right i (omega (arith, k .low)) z (right-of L t i (s .t-le) pi (L .beside (H .atRank t) i pp pi l o))) v)
           (λ z.
           let i=b : i ≡ b = omega arith in
           c (omega (arith, pi .high)) (o ∙ ap (H .row) i=b))
@@ -296,5 +296,5 @@ clean {H} L {S} (suc t) a b q y s d f =
     (clean L t a p q (n .low) (match-low L s k z) (low-apart L s d k z c) (follow-low L tn f e m))
     (clean L t p b (reach H a p q) (n .high) (match-high L s k z) (high-apart L s d k z c) (follow-high L tn f e m))))
     (λ e.
-    let nb : Between a p b → ⊥ = λ k. clash (dec-between a p b .of k) e in
+    let nb : Between a p b → ⊥ = λ k. not-both (dec-between a p b .of k) e in
     skip-clean L s d nb (clean L t a b q (omega (arith, value-skip H t a b q e)) (match-same L s (λ k. absurd (nb k))) (skip-apart L s d nb) (follow-skip L tn f e)))

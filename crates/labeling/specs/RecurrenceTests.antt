@@ -6,7 +6,7 @@ use Prim.Native.Nat.{ℕ, zero, suc, _+_, _≤_, _<_, max}
 use lib.Dec.{ltb, eqb}
 use borrow.Author.Tests.{ltb-true, ltb-false}
 use native.Mathlib.Omega.{arith}
-use Rattle.labeling.specs.Tests.{clash, decide, same, Decides, dec-lt, dec-le, dec-eq, dec-and, dec-not, and-left, and-right, and-both, or-left, or-right}
+use Rattle.labeling.specs.Tests.{not-both, decide, same, Decides, dec-lt, dec-le, dec-eq, dec-and, dec-not, and-left, and-right, and-both, or-left, or-right}
 use Rattle.labeling.specs.Recurrence.{Heights, Point, Overlap, between, overlaps, reachesOver, greatest, everyPoint, reachesAbove, reach, bars, good, clear, plus, join, value, outValue, inValue, takesIn, recovered, openWeight}
 
 -- TESTS IN GENERAL
@@ -30,17 +30,17 @@ dec-map f g d = record { is = λ e. f (d .is e); of = λ x. d .of (g x) }
 
 -- Two tests of one fact are equal.
 pub dec-unique : {a b : Bool} {A : Type 0} → Decides a A → Decides b A → a ≡ b
-dec-unique {a} {b} d e = decide a (λ x. x ∙ sym (e .of (d .is x))) (λ x. x ∙ sym (dec-false e (λ y. clash (d .of y) x)))
+dec-unique {a} {b} d e = decide a (λ x. x ∙ sym (e .of (d .is x))) (λ x. x ∙ sym (dec-false e (λ y. not-both (d .of y) x)))
 
 -- A disjunction of tests decides that the second fact holds unless the first does.
 pub dec-unless : {a b : Bool} {A B : Type 0} → Decides a A → Decides b B → Decides (a || b) ((A → ⊥) → B)
 dec-unless {a} {b} d e = record {
   is = λ x n. e .is (second a b x (dec-false d n));
-  of = λ f. decide a (λ x. or-left a b x) (λ x. or-right a b (e .of (f (λ y. clash (d .of y) x))));
+  of = λ f. decide a (λ x. or-left a b x) (λ x. or-right a b (e .of (f (λ y. not-both (d .of y) x))));
 }
   where
     second : (a b : Bool) → (a || b) ≡ true → a ≡ false → b ≡ true
-    second true b x y = absurd (clash refl y)
+    second true b x y = absurd (not-both refl y)
     second false b x y = x
 
 -- Recurrence.antt has two forms of it: the second fact holds if b ≤ n;
@@ -90,7 +90,7 @@ unfolding greatest
 greatest-most f zero i u e = omega arith
 greatest-most f (suc m) i u e =
     decide (f (suc m)) (λ k. rw k u)
-    (λ k. rw k (greatest-most f m i (same i (suc m) (λ z. absurd (clash e (rw z k))) (λ z. omega arith)) e))
+    (λ k. rw k (greatest-most f m i (same i (suc m) (λ z. absurd (not-both e (rw z k))) (λ z. omega arith)) e))
 
 -- THE TESTS OF RECURRENCE.ANTT
 
@@ -176,7 +176,7 @@ module _ (H : Heights) where
   reach-is a p q =
       decide (eqb r 0)
       (λ e. rw e (decide (reachesOver H p q) (λ k. rw k (older (dec-reaches p q .is k) refl)) (λ k. rw k (nobody refl))))
-      (λ e. rw e (let ne : r ≡ 0 → ⊥ = λ z. clash (dec-eq r 0 .of z) e in let k = dec-above a p r .is (greatest-is (reachesAbove H a p) p (omega arith)) in newer (k .1) (k .0)))
+      (λ e. rw e (let ne : r ≡ 0 → ⊥ = λ z. not-both (dec-eq r 0 .of z) e in let k = dec-above a p r .is (greatest-is (reachesAbove H a p) p (omega arith)) in newer (k .1) (k .0)))
     where
       r : ℕ
       r = greatest (reachesAbove H a p) p
@@ -196,7 +196,7 @@ module _ (H : Heights) where
   pub reach-older : (a p q : ℕ) → Reaches H p q → 1 ≤ reach H a p q
   unfolding reach
   reach-older a p q k =
-      decide (eqb r 0) (λ e. rw (e, dec-reaches p q .of k) (k .low)) (λ e. rw e (let ne : r ≡ 0 → ⊥ = λ z. clash (dec-eq r 0 .of z) e in omega arith))
+      decide (eqb r 0) (λ e. rw (e, dec-reaches p q .of k) (k .low)) (λ e. rw e (let ne : r ≡ 0 → ⊥ = λ z. not-both (dec-eq r 0 .of z) e in omega arith))
     where
       r : ℕ
       r = greatest (reachesAbove H a p) p

@@ -11,8 +11,9 @@ use Rattle.labeling.specs.Points.{Points, Choice, Pixel, atColumn, inMar
 use Rattle.labeling.specs.Marks.{Label, Leader, Outer, Marks, labelB, leaderB, outerB, marksB}
 use Rattle.labeling.specs.Conflicts.{Overlap, Hits, Conflict, Free, overlapB, hitsB, conflictB, every, validB}
 
-pub clash : {b : Bool} → b ≡ true → b ≡ false → ⊥
-clash p q = true≢false (sym p ∙ q)
+-- A Bool is not both true and false.
+pub not-both : {b : Bool} → b ≡ true → b ≡ false → ⊥
+not-both p q = true≢false (sym p ∙ q)
 
 -- A Bool is true or false, with the equation.
 pub decide {ℓ} : (b : Bool) {X : Type ℓ} → (b ≡ true → X) → (b ≡ false → X) → X
@@ -38,7 +39,7 @@ pub dec-eq : (a b : ℕ) → Decides (eqb a b) (a ≡ b)
 dec-eq a b = record { is = eqb-true a b; of = eq-eqb a b }
 
 pub dec-none : Decides false ⊥
-dec-none = record { is = λ e. clash e refl; of = λ x. absurd x }
+dec-none = record { is = λ e. not-both e refl; of = λ x. absurd x }
 
 pub and-left : (a b : Bool) → (a && b) ≡ true → a ≡ true
 and-left true b e = refl
@@ -46,7 +47,7 @@ and-left false b e = e
 
 pub and-right : (a b : Bool) → (a && b) ≡ true → b ≡ true
 and-right true b e = e
-and-right false b e = absurd (clash refl (sym e))
+and-right false b e = absurd (not-both refl (sym e))
 
 pub and-both : (a b : Bool) → a ≡ true → b ≡ true → (a && b) ≡ true
 and-both true b e f = f
@@ -54,11 +55,15 @@ and-both false b e f = e
 
 pub or-left : (a b : Bool) → a ≡ true → (a || b) ≡ true
 or-left true b e = refl
-or-left false b e = absurd (clash e refl)
+or-left false b e = absurd (not-both e refl)
 
 pub or-right : (a b : Bool) → b ≡ true → (a || b) ≡ true
 or-right true b e = refl
 or-right false b e = e
+
+pub or-false : (b : Bool) → (b || false) ≡ b
+or-false true = refl
+or-false false = refl
 
 pub or-is : (a b : Bool) → (a || b) ≡ true → (a ≡ true) ⊎ (b ≡ true)
 or-is true b e = inl refl
@@ -88,7 +93,7 @@ dec-or {a} {b} {A} {B} d e = record { is = λ x. there (or-is a b x); of = back 
     back (inr x) = or-right a b (e .of x)
 
 pub dec-not : {a : Bool} {A : Type 0} → Decides a A → Decides (not a) (A → ⊥)
-dec-not {a} {A} d = record { is = λ e x. clash (d .of x) (not-is a e); of = λ f. not-of a (λ e. f (d .is e)) }
+dec-not {a} {A} d = record { is = λ e x. not-both (d .of x) (not-is a e); of = λ f. not-of a (λ e. f (d .is e)) }
   where
     not-is : (a : Bool) → not a ≡ true → a ≡ false
     not-is true e = sym e
@@ -152,10 +157,10 @@ dec-free P S = record {
     other i j = eqb i j || not (conflictB P S i j)
 
     off : (i j : ℕ) → other i j ≡ true → (i ≡ j → ⊥) → Conflict P S i j → ⊥
-    off i j e ne c = clash (dec-conflict P S i j .of c) (ruled (eqb i j) _ e (ne-eqb i j ne))
+    off i j e ne c = not-both (dec-conflict P S i j .of c) (ruled (eqb i j) _ e (ne-eqb i j ne))
       where
         ruled : (a b : Bool) → (a || not b) ≡ true → a ≡ false → b ≡ false
-        ruled true b e f = absurd (clash refl f)
+        ruled true b e f = absurd (not-both refl f)
         ruled false true e f = sym e
         ruled false false e f = refl
 

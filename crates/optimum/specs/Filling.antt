@@ -6,7 +6,7 @@ use mathlib.Core.List.{List}
 use Prim.Native.Nat.{ℕ, _+_, _-_, _≤_, _<_, min}
 use borrow.Author.Tests.{ne-eqb}
 use native.Mathlib.Omega.{arith}
-use Rattle.labeling.specs.Tests.{clash, same}
+use Rattle.labeling.specs.Tests.{not-both, same}
 use Rattle.labeling.specs.Recurrence.{Heights, value, reachesOver}
 use Rattle.labeling.specs.RecurrenceTests.{greatest-most}
 use Rattle.labeling.specs.Comparisons.{topOf, top-below}
@@ -88,7 +88,7 @@ pub entry-none : {H : Heights} {table : List ℕ} {a b q : ℕ} → Filling H ta
 entry-none {H} {table} {a} {b} {q} x f = record {
   rows = x .rows;
   slabs = x .slabs;
-  entries = record { right = λ r m g. same r q (λ y. absurd (clash g (rw y f))) (λ ne. x .entries .right r (omega arith) g) };
+  entries = record { right = λ r m g. same r q (λ y. absurd (not-both g (rw y f))) (λ ne. x .entries .right r (omega arith) g) };
 }
 
 -- THE LOOPS

@@ -7,7 +7,7 @@ use native.Mathlib.Omega.{arith}
 use lib.Dec.{ltb, leb, eqb}
 use lib.ListN.{length, getD}
 use borrow.Author.Tests.{leb-true, leb-false}
-use Rattle.labeling.specs.Tests.{same, clash, Decides, dec-and, dec-le, dec-lt}
+use Rattle.labeling.specs.Tests.{same, not-both, Decides, dec-and, dec-le, dec-lt}
 use Rattle.labeling.specs.Recurrence.{Heights, Point, Sorted, Overlap, reachesOver, greatest}
 use Rattle.labeling.specs.RecurrenceTests.{less, dec-unique, dec-map, Reaches, dec-reaches}
 use Rattle.labeling.specs.Comparisons.{least, Passes, greatest-unique, least-unique, overlapsBelow, overlapsAbove, lowOf, highOf, topOf, dec-low, dec-high}
@@ -33,7 +33,7 @@ module _ {f : ℕ → Bool} {m : ℕ} where
   greatest-none a = sym (greatest-unique f m 0 (λ z. absurd (omega arith)) (a .most))
 
   pub greatest-next : {j : ℕ} → AtMost f m j → f j ≡ false → AtMost f m (j - 1)
-  greatest-next {j} a e = record { most = λ k p. same k j (λ z. absurd (clash (p .passes) (rw z e))) (λ ne. omega (arith, a .most k p)) }
+  greatest-next {j} a e = record { most = λ k p. same k j (λ z. absurd (not-both (p .passes) (rw z e))) (λ ne. omega (arith, a .most k p)) }
 
   pub least-found : {j : ℕ} → AtLeast f m j → 1 ≤ j → j ≤ m → f j ≡ true → j ≡ least f (suc m) m
   least-found {j} a l u e = sym (least-unique f (suc m) m j (omega arith) (omega arith) (λ z. record { low = l; high = u; passes = e }) (a .least))
@@ -43,7 +43,7 @@ module _ {f : ℕ → Bool} {m : ℕ} where
       sym (least-unique f (suc m) m (suc m) (omega arith) (omega arith) (λ z. absurd (z refl)) (λ k p. omega (arith, a .least k p, p .high)))
 
   pub least-next : {j : ℕ} → AtLeast f m j → f j ≡ false → AtLeast f m (j + 1)
-  least-next {j} a e = record { least = λ k p. same k j (λ z. absurd (clash (p .passes) (rw z e))) (λ ne. omega (arith, a .least k p)) }
+  least-next {j} a e = record { least = λ k p. same k j (λ z. absurd (not-both (p .passes) (rw z e))) (λ ne. omega (arith, a .least k p)) }
 
 -- WHERE TO LOOK
 

@@ -9,7 +9,7 @@ use lib.Dec.{ltb, eqb}
 use lib.ListN.{getD, length, set, length-set}
 use lib.Seq.{getD-set-same, getD-set-other}
 use borrow.Author.Tests.{ltb-true, ltb-false, eqb-true, eqb-false}
-use Rattle.labeling.specs.Tests.{clash, decide, and-right}
+use Rattle.labeling.specs.Tests.{not-both, decide, and-right}
 use Rattle.labeling.specs.Recurrence.{Heights, between, reach, value, join, outValue, takesIn, recovered}
 use Rattle.labeling.specs.RecurrenceTests.{Between, dec-between, false-of, recovered-skip, recovered-in, recovered-out}
 use Rattle.optimum.specs.Arrays.{heightsOf, Packed}
@@ -26,13 +26,13 @@ cond-same true x = refl
 cond-same false x = refl
 
 or-rest : (a b : Bool) → (a || b) ≡ true → a ≡ false → b ≡ true
-or-rest true b e f = absurd (clash refl f)
+or-rest true b e f = absurd (not-both refl f)
 or-rest false b e f = e
 
 -- A recovered choice's points are between the ends.
 recovered-range : (H : Heights) (t a b q i : ℕ) → recovered H t a b q i ≡ true → Between a i b
 unfolding recovered
-recovered-range H zero a b q i e = absurd (clash e refl)
+recovered-range H zero a b q i e = absurd (not-both e refl)
 recovered-range H (suc t) a b q i e =
     let p = H .atRank t in
     decide (between a p b)
@@ -111,9 +111,9 @@ took-skip H t a b q want acc p m pos is e k =
       same = refl;
       wanted = λ _. want-skip H t a b q want acc f is;
       whole = λ _ m″ x. marked-skip H t a b q m m″ f x;
-      kept = λ z. absurd (clash z refl);
-      within = λ z. absurd (clash z refl);
-      out = λ z. absurd (clash z refl);
+      kept = λ z. absurd (not-both z refl);
+      within = λ z. absurd (not-both z refl);
+      out = λ z. absurd (not-both z refl);
     }
 
 module _ {s table : List ℕ} {a b q t p : ℕ} (x : Opened s table a b q p × (heightsOf s .rank p ≡ t)) (want acc : ℕ) (m : List ℕ) (pos : 1 ≤ acc) (is : want ≡ join acc (value (heightsOf s) (suc t) a b q)) where
@@ -129,8 +129,8 @@ module _ {s table : List ℕ} {a b q t p : ℕ} (x : Opened s table a b q p × (
     some = pos;
     grown = omega arith;
     same = refl;
-    wanted = λ z. absurd (clash refl z);
-    whole = λ z. absurd (clash refl z);
+    wanted = λ z. absurd (not-both refl z);
+    whole = λ z. absurd (not-both refl z);
     kept = λ _. refl;
     within = λ _. here;
     out = λ _. want-out (heightsOf s) t a b q want acc pos here is (sym (rw (x .1) at e) ∙ f);
@@ -149,9 +149,9 @@ module _ {s table : List ℕ} {a b q t p : ℕ} (x : Opened s table a b q p × (
         same = length-set m p 1;
         wanted = λ _. want-on (heightsOf s) t a b q want acc pos here is acc′ k v;
         whole = λ _ m″ y. marked-in (heightsOf s) t a b q here m m″ u k (rw point y);
-        kept = λ z. absurd (clash z refl);
-        within = λ z. absurd (clash z refl);
-        out = λ z. absurd (clash z refl);
+        kept = λ z. absurd (not-both z refl);
+        within = λ z. absurd (not-both z refl);
+        out = λ z. absurd (not-both z refl);
       }
 
 -- THE LOOP

@@ -8,7 +8,7 @@ use native.Mathlib.Numerals.{add-one}
 use native.Mathlib.Omega.{arith}
 use lib.Dec.{eqb, ltb}
 use borrow.Author.Tests.{not-true, not-false, ltb-true, ltb-false}
-use Rattle.labeling.specs.Tests.{clash, decide, same, or-right, dec-eq}
+use Rattle.labeling.specs.Tests.{not-both, decide, same, or-right, dec-eq}
 use Rattle.labeling.specs.Recurrence.{Heights, Point, Sorted, between, reach, reachesOver, value, join, outValue, clear, good, total}
 use Rattle.labeling.specs.RecurrenceTests.{value-zero, value-skip, less, Between, dec-between, dec-reaches, Reached, reach-is, newer, older, nobody}
 use Rattle.labeling.specs.Totals.{all, value-bound}
@@ -172,7 +172,7 @@ step-skip H t a b q best acc p ended z pos e k = record {
   some = pos;
   grown = omega arith;
   on = λ _. reached-skip H t a b q best acc pos (rw e at k);
-  off = λ y. absurd (clash y z);
+  off = λ y. absurd (not-both y z);
 }
 
 module _ {s table : List ℕ} {a b q t p : ℕ} (x : Opened s table a b q p × (heightsOf s .rank p ≡ t)) (best acc : ℕ) (pos : 1 ≤ acc) where
@@ -182,7 +182,7 @@ module _ {s table : List ℕ} {a b q t p : ℕ} (x : Opened s table a b q p × (
   step-stop best′ out g e f h z = rw (← x .1) (record {
     some = pos;
     grown = omega arith;
-    on = λ y. absurd (clash refl y);
+    on = λ y. absurd (not-both refl y);
     off = λ _. reached-stop (heightsOf s) (heightsOf s .rank p) a b q best acc pos best′ (open-between (x .0)) (sym h ∙ not-true g z) (e ∙ rw f);
   })
 
@@ -194,7 +194,7 @@ module _ {s table : List ℕ} {a b q t p : ℕ} (x : Opened s table a b q p × (
     some = omega arith;
     grown = omega (arith, weight-small s p (x .0 .ready .packed) (x .0 .point));
     on = λ _. reached-on (heightsOf s) (heightsOf s .rank p) a b q best acc pos best′ acc′ (open-between (x .0)) (sym h ∙ not-false g z) (e ∙ rw f) (y ∙ rw (at-rank (x .0), v));
-    off = λ k. absurd (clash k refl);
+    off = λ k. absurd (not-both k refl);
   })
 
 -- THE LOOP

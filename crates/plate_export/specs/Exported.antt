@@ -6,10 +6,10 @@ use Prim.Native.Nat.{ℕ}
 use lib.Dec.{eqb}
 use lib.ListN.{length}
 use borrow.Author.Tests.{not-true}
-use Rattle.format.specs.PlateQuestions.{insideStart, plateNo, handedBackAt}
-use Rattle.format.specs.PlateAnswers.{plateOutcome, plateOutcomeOf}
-use Rattle.format.specs.declared.plate.PlateAnswer.{PlateAnswer}
-use Rattle.format.specs.declared.plate.PlateAnswer.the-variants.{Accepted as AcceptedPlate, Refused as RefusedPlate}
+use Rattle.plate_reader.specs.PlateQuestions.{insideStart, plateNo, handedBackAt}
+use Rattle.plate_reader.specs.PlateAnswers.{plateOutcome, plateOutcomeOf}
+use Rattle.plate_reader.specs.declared.PlateAnswer.{PlateAnswer}
+use Rattle.plate_reader.specs.declared.PlateAnswer.the-variants.{Accepted as AcceptedPlate, Refused as RefusedPlate}
 use Rattle.format.specs.MakingQuestions.{makingNo, workspaceAfter}
 use Rattle.plate_maker.specs.Making.{makeOutcomeOf, BestOutput, Making}
 use Rattle.plate_maker.specs.declared.MakeAnswer.{MakeAnswer}

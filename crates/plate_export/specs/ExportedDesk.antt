@@ -2,8 +2,8 @@
 use mathlib.Core.Path.{_≡_, sym, ap, ap₂, _∙_}
 use mathlib.Core.List.{List}
 use Prim.Native.Nat.{ℕ}
-use Rattle.format.specs.declared.clash.ClashKind.{ClashKind}
-use Rattle.format.specs.declared.clash.ClashKind.the-variants.{Labels, LabelAndLeader}
+use Rattle.clash.specs.declared.ClashKind.{ClashKind}
+use Rattle.clash.specs.declared.ClashKind.the-variants.{Labels, LabelAndLeader}
 use Rattle.format.specs.MakingQuestions.{workspaceAfter}
 use Rattle.desk.specs.Desk.{loadOf, loadOutcome, markOf}
 use Rattle.desk.specs.declared.Desk.{Desk}

@@ -5,14 +5,14 @@ ghost use Rattle.format.specs.MakingQuestions.{workspaceAfter};
 ghost use Rattle.desk.specs.Desk.{fresh, loadOf, markOf};
 ghost use Rattle.plate_export.specs.Exported.{MakingExported, ReadingExported};
 ghost use Rattle.plate_export.specs.ExportedDesk.{deskOf, stateOf, loadReply, kindNumber, verdictReply, markReply};
+use clash::ClashKind;
 use desk::Desk;
 use desk::LoadAnswer;
 use desk::MarkAnswer;
 use desk::Verdict;
-use format::ClashKind;
-use format::PlateAnswer;
 use format::SheetAnswer;
 use plate_maker::MakeAnswer;
+use plate_reader::PlateAnswer;
 
 // The number of the first no of a sheet, 0 if it is accepted: format::check_sheet.
 #[no_mangle]
@@ -58,12 +58,12 @@ pub struct ReadResult {
     pub inside_count: u64,
 }
 
-// format::read_plate.
+// plate_reader::read_plate.
 #[no_mangle]
 pub extern "C" fn plate_read(plate: &[u8]) -> ReadResult
     ensures { λ r. ⌜ ReadingExported (now (plate .entry)) (r .number) (r .«inside_start») (r .«inside_count») ⌝ }
 {
-    match format::read_plate(plate) {
+    match plate_reader::read_plate(plate) {
         PlateAnswer::Accepted(count) => ReadResult {
             number: 0,
             inside_start: 11 + 6 * format::point_count(plate) as u64,

@@ -11,8 +11,8 @@ use Rattle.labeling.specs.Marks.{Valid}
 use Rattle.format.specs.Sheet.{pointCount, pointsOf}
 use Rattle.format.specs.Plate.{insideBelow, plateOf}
 use Rattle.format.specs.Accepted.{Accepted, none-sheet}
-use Rattle.format.specs.PlateQuestions.{plateNo, handedBack}
-use Rattle.format.specs.DemandTwoReader.{PlateOfChoice, ReadRight, demand-two-reader}
+use Rattle.plate_reader.specs.PlateQuestions.{plateNo, handedBack}
+use Rattle.plate_reader.specs.DemandTwoReader.{PlateOfChoice, ReadRight, demand-two-reader}
 use Rattle.format.specs.MakingQuestions.{makingNo, none-making}
 use Rattle.plate_maker.specs.Making.{bestLength, makeOutcomeOf, BestOutput, Making}
 use Rattle.plate_maker.specs.BestPlate.{best-length}

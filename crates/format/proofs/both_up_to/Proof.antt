@@ -1,7 +1,7 @@
 -- `format::both_up_to` meets its contract. Assumes nothing.
 use borrow.Author.Needs.{needs}
 use mathlib.Core.Path.{sym, _∙_}
-use Rattle.format.proofs.Laws.{and-no, and-yes}
+use Rattle.format.specs.Asking.{and-no, and-yes}
 use Rattle.format.proofs.both_up_to.Statement.{statement}
 use Rattle.format.proofs.both_up_to.Tie as tie
 

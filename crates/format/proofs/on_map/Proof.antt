@@ -3,7 +3,7 @@ use borrow.Author.Needs.{needs}
 use borrow.Author.Tests.{lt-ltb, le-ltb}
 use lib.Dec.{ltb}
 use mathlib.Core.Path.{sym, _∙_, ap}
-use Rattle.format.proofs.Laws.{and-no, and-yes}
+use Rattle.format.specs.Asking.{and-no, and-yes}
 use Rattle.format.proofs.on_map.Statement.{statement}
 use Rattle.format.proofs.on_map.Tie as tie
 

@@ -1,0 +1,3 @@
+pub mod FirstClash
+pub mod ClashPixels
+pub mod ChoiceFlags

@@ -1,0 +1,50 @@
+-- `plate_reader::next_margin` meets its contract. Assumes nothing.
+use borrow.Author.Needs.{needs}
+use mathlib.Core.Path.{_≡_, sym, _∙_}
+use Prim.Native.Nat.{_+_}
+use lib.Dec.{ltb}
+use Rattle.format.specs.Sheet.{labelHeight, row, pointsOf}
+use Rattle.plate_reader.proofs.Laws.{margin-near, margin-far}
+use Rattle.plate_reader.proofs.next_margin.Statement.{statement}
+use Rattle.plate_reader.proofs.next_margin.Tie as tie
+
+row-requires : tie.Need-row-requires
+row-requires c κs = search needs
+
+row-requires-2 : tie.Need-row-requires-2
+row-requires-2 c κs = search needs
+
+label-height-requires : tie.Need-label-height-requires
+label-height-requires c κs = search needs
+
+within-requires : tie.Need-within-requires
+within-requires c κs = search needs
+
+add-result : tie.Need-add-result
+add-result c = search needs
+
+-- whether the rows are less than a label's height apart
+reach : (c : tie.After-within) → c .within .result ≡ (let a = c .before .before .before .before .before .args in ltb (row (a .sheet .now) (a .previous)) (row (a .sheet .now) (a .position) + labelHeight (a .sheet .now)))
+reach c = cc
+
+returns : tie.Need-returns
+returns c =
+    let a = c .before .before .before .before .before .before .args in
+    margin-near (pointsOf (a .sheet .now)) (a .previous) (a .margin) (a .position) (sym (reach (c .before)) ∙ c .if1 .taken)
+
+returns-2 : tie.Need-returns-2
+returns-2 c =
+    let a = c .before .before .before .before .before .before .args in
+    margin-far (pointsOf (a .sheet .now)) (a .previous) (a .margin) (a .position) (sym (reach (c .before)) ∙ c .if1 .left)
+
+pub next-margin-spec : {M : Type 1} → statement M
+next-margin-spec =
+    tie.close
+    (tie.spec
+    row-requires
+    row-requires-2
+    label-height-requires
+    within-requires
+    add-result
+    returns
+    returns-2)

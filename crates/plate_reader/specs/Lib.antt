@@ -1,0 +1,10 @@
+pub mod PlateQuestions
+pub mod OutsideWalk
+pub mod InsideList
+pub mod PlateSections
+pub mod PlateWalk
+pub mod PlateAnswers
+pub mod DemandTwoReader
+pub mod Cases
+pub mod CasePixels
+pub mod Refusals
