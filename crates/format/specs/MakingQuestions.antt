@@ -1,5 +1,4 @@
 -- The questions of making and what a call leaves in the workspace (document 01, "Questions in their order"). Assumes nothing.
-use mathlib.Core.Path.{_≡_}
 use mathlib.Core.Bool.{cond}
 use mathlib.Core.List.{List}
 use Prim.Native.Nat.{ℕ, _+_, _*_, _≤_}

@@ -7,12 +7,12 @@ use lib.Dec.{eqb}
 use lib.ListN.{length, getD, replicate, length-replicate, getD-replicate}
 use borrow.Author.Tests.{eq-eqb, ne-eqb}
 use native.Mathlib.Omega.{arith}
-use Rattle.labeling.specs.Points.{Choice, outside}
+use Rattle.labeling.specs.Points.{outside}
 use Rattle.labeling.specs.Best.{count, bestCount, oneEach, Best, best}
 use Rattle.labeling.specs.Greatest.{some-best, best-counts}
-use Rattle.labeling.specs.Recurrence.{Point, Sorted, recovered}
+use Rattle.labeling.specs.Recurrence.{Point, recovered}
 use Rattle.labeling.specs.Optimum.{optimum, chosen}
-use Rattle.labeling.specs.Positions.{Arranged, SameChoice, AllAllowed, best-optimum, chosen-best}
+use Rattle.labeling.specs.Positions.{SameChoice, best-optimum, chosen-best}
 use Rattle.format.specs.Sheet.{pointCount, pointsOf}
 use Rattle.format.specs.Plate.{insideBelow}
 use Rattle.format.specs.Accepted.{Accepted}

@@ -5,7 +5,8 @@ use mathlib.Core.List.{List}
 use Prim.Native.Nat.{ℕ, suc, _+_, _-_, _*_, _≤_, _<_}
 use native.Mathlib.Omega.{arith}
 use lib.Dec.{ltb, leb, eqb}
-use lib.ListN.{length, getD}
+use lib.ListN.{length, getD, set, length-set}
+use lib.Seq.{getD-set-same, getD-set-other}
 use borrow.Author.Tests.{leb-true, leb-false}
 use Rattle.labeling.specs.Tests.{same, not-both, Decides, dec-and, dec-le, dec-lt}
 use Rattle.labeling.specs.Recurrence.{Heights, Point, Sorted, Overlap, reachesOver, greatest}
@@ -13,7 +14,6 @@ use Rattle.labeling.specs.RecurrenceTests.{less, dec-unique, dec-map, Reaches, 
 use Rattle.labeling.specs.Comparisons.{least, Passes, greatest-unique, least-unique, overlapsBelow, overlapsAbove, lowOf, highOf, topOf, dec-low, dec-high}
 use Rattle.optimum.specs.Arrays.{weightAt, heightsOf, positionAt}
 use Rattle.optimum.specs.SameHeights.{SameHeights, greatest-same, sorted-same, high-same, top-same}
-use Rattle.optimum.specs.Cells.{Written}
 
 -- DOWN TO THE GREATEST, UP TO THE LEAST
 
@@ -199,9 +199,6 @@ pub record Kept (s r : List ℕ) : Type 0 where
   pub long : length r ≡ length s
   pub cell : (c : ℕ) → (136 ≤ c → c < 238 → ⊥) → getD r c 0 ≡ getD s c 0
 
-pub kept-trans : (s r z : List ℕ) → Kept s r → Kept r z → Kept s z
-kept-trans s r z a b = record { long = b .long ∙ a .long; cell = λ c x. b .cell c x ∙ a .cell c x }
-
 module _ {s r : List ℕ} (K : Kept s r) where
   pub kept-position : (i : ℕ) → i < 34 → positionAt r i ≡ positionAt s i
   unfolding positionAt
@@ -242,72 +239,89 @@ pub record Limited (s r : List ℕ) : Type 0 where
   pub high-is : (i : ℕ) → Point (heightsOf r) i → getD r (170 + i) 0 ≡ highOf (heightsOf r) i
   pub top-is : (i : ℕ) → Point (heightsOf r) i → getD r (204 + i) 0 ≡ topOf (heightsOf r) i
 
-pub written-kept : {at m : ℕ} {g : ℕ → ℕ} {s r : List ℕ} → 136 ≤ at → at + m ≤ 238 → Written (λ i. at + i) g m s r → Kept s r
-written-kept l u w = record { long = w .long; cell = λ c x. w .other c (λ k b e. x (omega arith) (omega arith)) }
+-- Those of the points 1 to m are written into s.
+pub record LimitedTo (s : List ℕ) (m : ℕ) (r : List ℕ) : Type 0 where
+  pub kept : Kept s r
+  pub low : (k : ℕ) → k < m → getD r (137 + k) 0 ≡ topOf (heightsOf s) (k + 1)
+  pub high : (k : ℕ) → k < m → getD r (171 + k) 0 ≡ highOf (heightsOf s) (k + 1)
+  pub top : (k : ℕ) → k < m → getD r (205 + k) 0 ≡ topOf (heightsOf s) (k + 1)
+
+pub limited-none : (s : List ℕ) → LimitedTo s 0 s
+limited-none s = record {
+  kept = record { long = refl; cell = λ c x. refl };
+  low = λ k b. absurd (omega arith);
+  high = λ k b. absurd (omega arith);
+  top = λ k b. absurd (omega arith);
+}
+
+-- One more point, whose top is t and whose high is h. Low is top.
+module _ {s : List ℕ} {m : ℕ} {r : List ℕ} (few : m < 32) (long : length r ≡ 517) (T : LimitedTo s m r) (t h : ℕ) where
+  abbrev with-low : List ℕ
+  with-low = set r (137 + m) t
+
+  abbrev with-high : List ℕ
+  with-high = set with-low (171 + m) h
+
+  abbrev with-top : List ℕ
+  with-top = set with-high (205 + m) t
+
+  -- a cell that isn't written now
+  beside : (c : ℕ) → (c ≡ 137 + m → ⊥) → (c ≡ 171 + m → ⊥) → (c ≡ 205 + m → ⊥) → getD with-top c 0 ≡ getD r c 0
+  beside c x y z =
+      getD-set-other with-high (205 + m) c t 0 z
+      ∙ (getD-set-other with-low (171 + m) c h 0 y ∙ getD-set-other r (137 + m) c t 0 x)
+
+  low-here : getD with-top (137 + m) 0 ≡ t
+  low-here =
+      getD-set-other with-high (205 + m) (137 + m) t 0 (λ e. omega arith)
+      ∙ (getD-set-other with-low (171 + m) (137 + m) h 0 (λ e. omega arith) ∙ getD-set-same r (137 + m) t 0 (omega arith))
+
+  high-here : getD with-top (171 + m) 0 ≡ h
+  high-here = getD-set-other with-high (205 + m) (171 + m) t 0 (λ e. omega arith) ∙ getD-set-same with-low (171 + m) h 0 (simp length-set (omega arith))
+
+  top-here : getD with-top (205 + m) 0 ≡ t
+  top-here = getD-set-same with-high (205 + m) t 0 (simp length-set (omega arith))
+
+  pub limited-more : t ≡ topOf (heightsOf s) (m + 1) → h ≡ highOf (heightsOf s) (m + 1) → LimitedTo s (m + 1) with-top
+  limited-more e f = record {
+    kept = record {
+      long = simp length-set (T .kept .long);
+      cell = λ c x.
+          beside c (λ z. x (omega arith) (omega arith)) (λ z. x (omega arith) (omega arith)) (λ z. x (omega arith) (omega arith))
+          ∙ T .kept .cell c x;
+    };
+    low = λ k b.
+        same k m
+        (λ z. rw z (low-here ∙ e))
+        (λ ne. beside (137 + k) (λ z. omega arith) (λ z. omega arith) (λ z. omega arith) ∙ T .low k (omega arith));
+    high = λ k b.
+        same k m
+        (λ z. rw z (high-here ∙ f))
+        (λ ne. beside (171 + k) (λ z. omega arith) (λ z. omega arith) (λ z. omega arith) ∙ T .high k (omega arith));
+    top = λ k b.
+        same k m
+        (λ z. rw z (top-here ∙ e))
+        (λ ne. beside (205 + k) (λ z. omega arith) (λ z. omega arith) (λ z. omega arith) ∙ T .top k (omega arith));
+  }
 
 -- What was written for the points 1 to m, from cell c + 1 on.
-at-point : (c : ℕ) (f : ℕ → ℕ) {m : ℕ} {s r : List ℕ} → Written (λ k. c + 1 + k) (λ k. f (k + 1)) m s r → (i : ℕ) → 1 ≤ i → i ≤ m → getD r (c + i) 0 ≡ f i
-at-point c f {m} {s} {r} w i l u =
+at-point : (c : ℕ) (f : ℕ → ℕ) (r : List ℕ) {m : ℕ} → ((k : ℕ) → k < m → getD r (c + 1 + k) 0 ≡ f (k + 1)) → (i : ℕ) → 1 ≤ i → i ≤ m → getD r (c + i) 0 ≡ f i
+at-point c f r {m} w i l u =
     let x : c + i ≡ c + 1 + (i - 1) = omega arith in
     let y : i - 1 + 1 ≡ i = omega arith in
-    ap (λ z. getD r z 0) x ∙ (w .here (i - 1) (omega arith) ∙ ap f y)
+    ap (λ z. getD r z 0) x ∙ (w (i - 1) (omega arith) ∙ ap f y)
 
-module _ {s₀ s₁ : List ℕ} (o : InOrder s₀) (w₁ : Written (λ k. 205 + k) (λ k. topOf (heightsOf s₀) (k + 1)) (heightsOf s₀ .n) s₀ s₁) where
-  kept₁ : Kept s₀ s₁
-  kept₁ = written-kept (omega arith) (omega (arith, o .few)) w₁
-
-  pub order₁ : InOrder s₁
-  order₁ = kept-order kept₁ o
-
-  module _ {s₂ : List ℕ} (w₂ : Written (λ k. 137 + k) (λ k. getD s₁ (205 + k) 0) (heightsOf s₁ .n) s₁ s₂) where
-    kept₂ : Kept s₁ s₂
-    kept₂ = written-kept (omega arith) (omega (arith, order₁ .few)) w₂
-
-    pub order₂ : InOrder s₂
-    order₂ = kept-order kept₂ order₁
-
-    module _ {s₃ : List ℕ} (w₃ : Written (λ k. 171 + k) (λ k. highOf (heightsOf s₂) (k + 1)) (heightsOf s₂ .n) s₂ s₃) where
-      kept₃ : Kept s₂ s₃
-      kept₃ = written-kept (omega arith) (omega (arith, order₂ .few)) w₃
-
-      all-kept : Kept s₀ s₃
-      all-kept = kept-trans s₀ s₂ s₃ (kept-trans s₀ s₁ s₂ kept₁ kept₂) kept₃
-
-      order₃ : InOrder s₃
-      order₃ = kept-order all-kept o
-
-      same₀ : SameHeights (heightsOf s₀) (heightsOf s₃)
-      same₀ = kept-same all-kept (o .few)
-
-      same₁ : SameHeights (heightsOf s₁) (heightsOf s₃)
-      same₁ = kept-same (kept-trans s₁ s₂ s₃ kept₂ kept₃) (order₁ .few)
-
-      same₂ : SameHeights (heightsOf s₂) (heightsOf s₃)
-      same₂ = kept-same kept₃ (order₂ .few)
-
-      -- The cell of top, and the cell of low, which is the same.
-      top-cell : (i : ℕ) → Point (heightsOf s₃) i → getD s₁ (204 + i) 0 ≡ topOf (heightsOf s₃) i
-      top-cell i p =
-          let u : i ≤ heightsOf s₀ .n = omega (arith, same₀ .n, p .high) in
-          at-point 204 (topOf (heightsOf s₀)) w₁ i (p .low) u ∙ sym (top-same same₀ i u)
-
-      low-cell : (i : ℕ) → Point (heightsOf s₃) i → getD s₂ (136 + i) 0 ≡ getD s₁ (204 + i) 0
-      low-cell i p =
-          let u : i ≤ heightsOf s₁ .n = omega (arith, same₁ .n, p .high) in
-          let x : 136 + i ≡ 137 + (i - 1) = omega (arith, p .low) in
-          let y : 205 + (i - 1) ≡ 204 + i = omega (arith, p .low) in
-          ap (λ z. getD s₂ z 0) x ∙ (w₂ .here (i - 1) (omega (arith, p .low)) ∙ ap (λ z. getD s₁ z 0) y)
-
-      pub limited : Limited s₀ s₃
-      limited = record {
-        kept = all-kept;
-        low-is = λ i p.
-            w₃ .other (136 + i) (λ k b e. omega (arith, order₃ .few, p .high))
-            ∙ (low-cell i p ∙ (top-cell i p ∙ sym (low-top (order₃ .sorted) i p)));
-        high-is = λ i p.
-            let u : i ≤ heightsOf s₂ .n = omega (arith, same₂ .n, p .high) in
-            at-point 170 (highOf (heightsOf s₂)) w₃ i (p .low) u ∙ sym (high-same same₂ i u);
-        top-is = λ i p.
-            w₃ .other (204 + i) (λ k b e. omega (arith, order₂ .few))
-            ∙ (w₂ .other (204 + i) (λ k b e. omega (arith, order₁ .few)) ∙ top-cell i p);
-      }
+-- All points.
+pub limited : {s r : List ℕ} → InOrder s → LimitedTo s (heightsOf s .n) r → Limited s r
+limited {s} {r} o T =
+    let H = kept-same (T .kept) (o .few) in
+    let q = kept-order (T .kept) o in
+    let within : (i : ℕ) → Point (heightsOf r) i → i ≤ heightsOf s .n = λ i p. omega (arith, H .n, p .high) in
+    record {
+      kept = T .kept;
+      low-is = λ i p.
+          at-point 136 (topOf (heightsOf s)) r (T .low) i (p .low) (within i p)
+          ∙ (sym (top-same H i (within i p)) ∙ sym (low-top (q .sorted) i p));
+      high-is = λ i p. at-point 170 (highOf (heightsOf s)) r (T .high) i (p .low) (within i p) ∙ sym (high-same H i (within i p));
+      top-is = λ i p. at-point 204 (topOf (heightsOf s)) r (T .top) i (p .low) (within i p) ∙ sym (top-same H i (within i p));
+    }

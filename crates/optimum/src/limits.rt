@@ -1,12 +1,10 @@
 // Low, high and top of each point.
 ghost use mathlib.Core.Path.{_≡_};
 ghost use Prim.Native.Nat.{_+_, _<_};
-ghost use lib.ListN.{getD};
 ghost use Rattle.labeling.specs.Recurrence.{Point};
 ghost use Rattle.labeling.specs.Comparisons.{highOf, topOf};
 ghost use Rattle.optimum.specs.Arrays.{heightsOf};
 ghost use Rattle.optimum.specs.Limits.{labelBelow, columnWithin, InOrder, Limited};
-ghost use Rattle.optimum.specs.Cells.{Written};
 use crate::points::PointArray;
 use crate::points::column_at;
 use crate::points::label_height;
@@ -72,51 +70,19 @@ fn high(heights: &PointArray, i: usize) -> usize
     n + 1
 }
 
-// Low of each point: the greatest point below it that is right of it and overlaps it, or 0. That is its top.
-fn write_low(heights: &mut PointArray)
-    requires { ⌜ InOrder (now heights) ⌝ }
-    ensures { λ _. ⌜ Written (λ k. 137 + k) (λ k. getD (now (heights .entry)) (205 + k) 0) (heightsOf (now (heights .entry)) .n) (now (heights .entry)) (now (heights .exit)) ⌝ }
-{
-    let n = point_count(heights);
-    let mut k = 0;
-    while k < n {
-        heights[137 + k] = heights[205 + k];
-        k += 1;
-    }
-}
-
-// High of each point.
-fn write_high(heights: &mut PointArray)
-    requires { ⌜ InOrder (now heights) ⌝ }
-    ensures { λ _. ⌜ Written (λ k. 171 + k) (λ k. highOf (heightsOf (now (heights .entry))) (k + 1)) (heightsOf (now (heights .entry)) .n) (now (heights .entry)) (now (heights .exit)) ⌝ }
-{
-    let n = point_count(heights);
-    let mut k = 0;
-    while k < n {
-        heights[171 + k] = high(heights, k + 1) as u16;
-        k += 1;
-    }
-}
-
-// Top of each point.
-fn write_top(heights: &mut PointArray)
-    requires { ⌜ InOrder (now heights) ⌝ }
-    ensures { λ _. ⌜ Written (λ k. 205 + k) (λ k. topOf (heightsOf (now (heights .entry))) (k + 1)) (heightsOf (now (heights .entry)) .n) (now (heights .entry)) (now (heights .exit)) ⌝ }
-{
-    let n = point_count(heights);
-    let mut k = 0;
-    while k < n {
-        heights[205 + k] = top(heights, k + 1) as u16;
-        k += 1;
-    }
-}
-
-// Low, high and top of each point.
+// Low, high and top of each point. Its low, the greatest point below it that is right of it and overlaps it, is its top.
 pub(crate) fn write_limits(heights: &mut PointArray)
     requires { ⌜ InOrder (now heights) ⌝ }
     ensures { λ _. ⌜ Limited (now (heights .entry)) (now (heights .exit)) ⌝ }
 {
-    write_top(heights);
-    write_low(heights);
-    write_high(heights);
+    let n = point_count(heights);
+    let mut k = 0;
+    while k < n {
+        let topmost = top(heights, k + 1) as u16;
+        let least = high(heights, k + 1) as u16;
+        heights[137 + k] = topmost;
+        heights[171 + k] = least;
+        heights[205 + k] = topmost;
+        k += 1;
+    }
 }

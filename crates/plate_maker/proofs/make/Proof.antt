@@ -1,7 +1,6 @@
 -- `plate_maker::make` meets its contract. Assumes nothing.
 use borrow.Author.Needs.{needs}
 use mathlib.Core.Path.{sym, _∙_}
-use native.Mathlib.Omega.{arith}
 use Rattle.format.specs.Accepted.{none-sheet}
 use Rattle.format.specs.MakingQuestions.{none-making}
 use Rattle.plate_maker.specs.MakingLaws.{refused-making, made-making}

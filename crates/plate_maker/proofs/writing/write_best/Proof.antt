@@ -1,8 +1,6 @@
 -- `plate_maker::writing::write_best` meets its contract: the two lists are read from their cells. Assumes nothing.
 use borrow.Author.Needs.{needs}
 use native.Mathlib.Omega.{arith}
-use mathlib.Core.Path.{ap}
-use lib.ListN.{length}
 use Rattle.format.specs.Accepted.{Accepted, accepted}
 use Rattle.plate_maker.specs.BestPlate.{inside-fits, outside-fits, inside-listed, outside-listed, both-lengths, best-written}
 use Rattle.plate_maker.proofs.writing.write_best.Statement.{statement}

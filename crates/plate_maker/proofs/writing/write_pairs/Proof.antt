@@ -1,16 +1,16 @@
 -- `plate_maker::writing::write_pairs` meets its contract: the pairs of the first `count` positions are written. Assumes nothing.
 use borrow.Author.Needs.{needs}
-use mathlib.Core.List.{List, [], _∷_}
-use mathlib.Core.Path.{_≡_, ap, _∙_, sym}
-use Prim.Native.Nat.{ℕ, suc, _≤_, _<_, _-_, _+_, _*_}
-use lib.ListN.{length, getD, drop, length-set, length-drop}
+use mathlib.Core.List.{[], _∷_}
+use mathlib.Core.Path.{_≡_, ap, _∙_}
+use Prim.Native.Nat.{ℕ, _≤_, _-_, _+_}
+use lib.ListN.{length, getD, drop, length-set}
 use lib.Seq.{drop-cons, drop-length}
 use native.Mathlib.Numerals.{add-one}
 use native.Mathlib.Omega.{arith}
 use Rattle.labeling.specs.Points.{Points, placed}
 use Rattle.format.specs.Sheet.{pointsOf}
 use Rattle.format.specs.Plate.{pairs}
-use Rattle.plate_maker.specs.Writing.{marginAfter, SoFar}
+use Rattle.plate_maker.specs.Writing.{SoFar}
 use Rattle.plate_maker.specs.Pairs.{so-far-none, so-far-more, so-far-whole}
 use Rattle.plate_maker.proofs.writing.write_pairs.Statement.{statement}
 use Rattle.plate_maker.proofs.writing.write_pairs.Tie as tie
