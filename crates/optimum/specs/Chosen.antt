@@ -49,7 +49,7 @@ pub record TwoLists (n : ℕ) (heights marks : List ℕ) (r : BestChoice) : Type
 module _ (s heights mark marks : List ℕ) {k : ℕ} (a : Accepted s) (p : Prepared s heights) (solved : Solved (heightsOf heights) mark k) (by : ByPosition heights mark marks) where
   -- the marks by position spell the recovered choice
   marks-chosen : SameChoice (heightsOf heights) (positionAt heights) (marked marks) (chosen (heightsOf heights))
-  unfolding marked chosen
+  unfolding chosen
   marks-chosen = record {
     at = λ i q. ap (λ x. eqb x 1) (by .at i q ∙ solved .marks i q) ∙ mark-is (recovered (heightsOf heights) (heightsOf heights .n) 0 (suc (heightsOf heights .n)) 0 i);
   }
