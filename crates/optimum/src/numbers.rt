@@ -5,7 +5,7 @@ ghost use lib.ListN.{length, getD, set};
 ghost use Rattle.format.specs.Sheet.{pointCount, labelWidth, labelHeight};
 ghost use Rattle.optimum.specs.Places.{tri, tet};
 ghost use Rattle.optimum.specs.Numbers.{blankOf, Numbers};
-ghost use Rattle.optimum.specs.Cells.{Written};
+ghost use Rattle.optimum.specs.Cells.{Written, BothWritten};
 use crate::points::PointArray;
 
 // The number of points, and the width and height of a label.
@@ -45,25 +45,14 @@ fn write_tetrahedral(heights: &mut PointArray)
     }
 }
 
-// Every point weighs 1: the first of its four cells.
-fn write_weights(heights: &mut PointArray)
+// Every point weighs 1, in the first of its weight's four cells, and may be inside.
+fn write_alike(heights: &mut PointArray)
     requires { ⌜ length (now heights) ≡ 517 ⌝ }
-    ensures { λ _. ⌜ Written (λ i. 310 + i * 4) (λ i. 1) 34 (now (heights .entry)) (now (heights .exit)) ⌝ }
+    ensures { λ _. ⌜ BothWritten (λ i. 310 + i * 4) (λ i. 1) (λ i. 446 + i) (λ i. 1) 34 (now (heights .entry)) (now (heights .exit)) ⌝ }
 {
     let mut i = 0;
     while i < 34 {
         heights[310 + i * 4] = 1;
-        i += 1;
-    }
-}
-
-// Every point may be inside.
-fn write_allowed(heights: &mut PointArray)
-    requires { ⌜ length (now heights) ≡ 517 ⌝ }
-    ensures { λ _. ⌜ Written (λ i. 446 + i) (λ i. 1) 34 (now (heights .entry)) (now (heights .exit)) ⌝ }
-{
-    let mut i = 0;
-    while i < 34 {
         heights[446 + i] = 1;
         i += 1;
     }
@@ -84,6 +73,5 @@ pub(crate) fn write_numbers(sheet: &[u8], heights: &mut PointArray)
     write_counts(sheet, heights);
     write_triangular(heights);
     write_tetrahedral(heights);
-    write_weights(heights);
-    write_allowed(heights);
+    write_alike(heights);
 }

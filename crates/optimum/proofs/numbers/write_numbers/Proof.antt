@@ -22,16 +22,13 @@ write-triangular-requires c κs = first-long (c .before)
 write-tetrahedral-requires : tie.Need-write-tetrahedral-requires
 write-tetrahedral-requires c κs = (c .before .write-triangular .ensures .long ∙ first-long (c .before .before .before), c .before .write-triangular .ensures .here)
 
-write-weights-requires : tie.Need-write-weights-requires
-write-weights-requires c κs = c .before .write-tetrahedral .ensures .long ∙ (c .before .before .before .write-triangular .ensures .long ∙ first-long (c .before .before .before .before .before))
-
-write-allowed-requires : tie.Need-write-allowed-requires
-write-allowed-requires c κs = c .before .write-weights .ensures .long ∙ (c .before .before .before .write-tetrahedral .ensures .long ∙ (c .before .before .before .before .before .write-triangular .ensures .long ∙ first-long (c .before .before .before .before .before .before .before)))
+write-alike-requires : tie.Need-write-alike-requires
+write-alike-requires c κs = c .before .write-tetrahedral .ensures .long ∙ (c .before .before .before .write-triangular .ensures .long ∙ first-long (c .before .before .before .before .before))
 
 returns : tie.Need-returns
 returns c =
-    numbers-made _ _ _ _ _ _ (first (c .before .before .before .before .before .before .before .before)) (c .before .before .before .before .before .before .write-triangular .ensures)
-    (c .before .before .before .before .write-tetrahedral .ensures) (c .before .before .write-weights .ensures) (c .write-allowed .ensures)
+    numbers-made _ _ _ _ _ (first (c .before .before .before .before .before .before)) (c .before .before .before .before .write-triangular .ensures)
+    (c .before .before .write-tetrahedral .ensures) (c .write-alike .ensures)
 
 pub write-numbers-spec : {M : Type 1} → statement M
 write-numbers-spec =
@@ -40,6 +37,5 @@ write-numbers-spec =
     write-counts-requires
     write-triangular-requires
     write-tetrahedral-requires
-    write-weights-requires
-    write-allowed-requires
+    write-alike-requires
     returns)
