@@ -9,7 +9,7 @@ use lib.Seq.{getD-set-same, getD-set-other}
 use Rattle.format.specs.Sheet.{pointCount, labelWidth, labelHeight}
 use Rattle.optimum.specs.Places.{tri, tet}
 use Rattle.optimum.specs.Arrays.{weightAt}
-use Rattle.optimum.specs.Cells.{Written}
+use Rattle.optimum.specs.Cells.{BothWritten}
 
 -- The array at first.
 unfoldable pub blankOf : List ℕ
@@ -25,10 +25,16 @@ pub tet-next : (k : ℕ) → tet (k + 1) ≡ tet k + tri k
 unfolding tet
 tet-next k = rw add-one
 
+-- Up to 36 both fit in 16 bits.
 pub tri-most : (k : ℕ) → k ≤ 36 → tri k ≤ 36 * k
 unfolding tri
 tri-most zero l = omega arith
 tri-most (suc k) l = omega (arith, tri-most k (omega arith))
+
+pub tet-most : (k : ℕ) → k ≤ 36 → tet k ≤ 1296 * k
+unfolding tet
+tet-most zero l = omega arith
+tet-most (suc k) l = omega (arith, tri-most k (omega arith), tet-most k (omega arith))
 
 -- THE CELLS
 
@@ -82,42 +88,38 @@ module _ (sheet s : List ℕ) (l : length s ≡ 517) where
       getD-set-other with-w 516 c (labelHeight sheet) 0 (λ e. omega arith)
       ∙ (getD-set-other with-n 515 c (labelWidth sheet) 0 (λ e. omega arith) ∙ getD-set-other s 514 c (pointCount sheet) 0 (λ e. omega arith))
 
--- The numbers written one after the other: those of the sheet, the two tables, the weights, the permissions.
-module _ (sheet s₁ s₂ s₃ s₄ s₅ : List ℕ) (w₁ : s₁ ≡ counted sheet blankOf) (w₂ : Written (λ k. 238 + k) tri 36 s₁ s₂) (w₃ : Written (λ k. 274 + k) tet 36 s₂ s₃) (w₄ : Written (λ i. 310 + i * 4) (λ i. 1) 34 s₃ s₄) (w₅ : Written (λ i. 446 + i) (λ i. 1) 34 s₄ s₅) where
+-- The numbers written one after the other: those of the sheet, the two tables, the weights and permissions.
+module _ (sheet s₁ s₂ s₃ : List ℕ) (w₁ : s₁ ≡ counted sheet blankOf) (w₂ : BothWritten (λ k. 238 + k) tri (λ k. 274 + k) tet 36 s₁ s₂) (w₃ : BothWritten (λ i. 310 + i * 4) (λ i. 1) (λ i. 446 + i) (λ i. 1) 34 s₂ s₃) where
   first-long : length s₁ ≡ 517
   first-long = rw w₁ (counted-long sheet blankOf blank-long)
 
-  -- A cell that none of the four writes.
-  kept : (c : ℕ) → (238 ≤ c → c < 310 → ⊥) → ((i : ℕ) → i < 34 → c ≡ 310 + i * 4 → ⊥) → (446 ≤ c → c < 480 → ⊥) → getD s₅ c 0 ≡ getD (counted sheet blankOf) c 0
+  -- A cell that neither loop writes.
+  kept : (c : ℕ) → (238 ≤ c → c < 310 → ⊥) → ((i : ℕ) → i < 34 → c ≡ 310 + i * 4 → ⊥) → (446 ≤ c → c < 480 → ⊥) → getD s₃ c 0 ≡ getD (counted sheet blankOf) c 0
   kept c t w a =
-      w₅ .other c (λ i l e. a (omega arith) (omega arith))
-      ∙ (w₄ .other c (λ i l e. w i l e)
-      ∙ (w₃ .other c (λ i l e. t (omega arith) (omega arith))
-      ∙ (w₂ .other c (λ i l e. t (omega arith) (omega arith))
-      ∙ ap (λ x. getD x c 0) w₁)))
+      w₃ .other c w (λ i l e. a (omega arith) (omega arith))
+      ∙ (w₂ .other c (λ i l e. t (omega arith) (omega arith)) (λ i l e. t (omega arith) (omega arith))
+      ∙ ap (λ x. getD x c 0) w₁)
 
   -- The three upper cells of a weight.
-  upper-cell : (c i : ℕ) → i < 34 → 310 + i * 4 < c → c < 314 + i * 4 → getD s₅ c 0 ≡ 0
+  upper-cell : (c i : ℕ) → i < 34 → 310 + i * 4 < c → c < 314 + i * 4 → getD s₃ c 0 ≡ 0
   upper-cell c i l a b =
       kept c (λ x y. omega arith) (λ j m e. omega arith) (λ x y. omega arith)
       ∙ (counted-other sheet blankOf blank-long c (omega arith) ∙ blank-cell c (omega arith))
 
-  pub numbers-made : Numbers sheet s₅
+  pub numbers-made : Numbers sheet s₃
   unfolding weightAt
   numbers-made = record {
-    long = w₅ .long ∙ (w₄ .long ∙ (w₃ .long ∙ (w₂ .long ∙ first-long)));
+    long = w₃ .long ∙ (w₂ .long ∙ first-long);
     n-is = kept 514 (λ x y. omega arith) (λ j m e. omega arith) (λ x y. omega arith) ∙ counted-n sheet blankOf blank-long;
     w-is = kept 515 (λ x y. omega arith) (λ j m e. omega arith) (λ x y. omega arith) ∙ counted-w sheet blankOf blank-long;
     h-is = kept 516 (λ x y. omega arith) (λ j m e. omega arith) (λ x y. omega arith) ∙ counted-h sheet blankOf blank-long;
-    tri-is = λ k l.
-        w₅ .other (238 + k) (λ i m e. omega arith)
-        ∙ (w₄ .other (238 + k) (λ i m e. omega arith) ∙ (w₃ .other (238 + k) (λ i m e. omega arith) ∙ w₂ .here k l));
-    tet-is = λ k l. w₅ .other (274 + k) (λ i m e. omega arith) ∙ (w₄ .other (274 + k) (λ i m e. omega arith) ∙ w₃ .here k l);
+    tri-is = λ k l. w₃ .other (238 + k) (λ i m e. omega arith) (λ i m e. omega arith) ∙ w₂ .first k l;
+    tet-is = λ k l. w₃ .other (274 + k) (λ i m e. omega arith) (λ i m e. omega arith) ∙ w₂ .second k l;
     weight-is = λ i l.
-        let a : getD s₅ (310 + i * 4) 0 ≡ 1 = w₅ .other (310 + i * 4) (λ j m e. omega arith) ∙ w₄ .here i l in
-        let b : getD s₅ (311 + i * 4) 0 ≡ 0 = upper-cell (311 + i * 4) i l (omega arith) (omega arith) in
-        let c : getD s₅ (312 + i * 4) 0 ≡ 0 = upper-cell (312 + i * 4) i l (omega arith) (omega arith) in
-        let d : getD s₅ (313 + i * 4) 0 ≡ 0 = upper-cell (313 + i * 4) i l (omega arith) (omega arith) in
+        let a : getD s₃ (310 + i * 4) 0 ≡ 1 = w₃ .first i l in
+        let b : getD s₃ (311 + i * 4) 0 ≡ 0 = upper-cell (311 + i * 4) i l (omega arith) (omega arith) in
+        let c : getD s₃ (312 + i * 4) 0 ≡ 0 = upper-cell (312 + i * 4) i l (omega arith) (omega arith) in
+        let d : getD s₃ (313 + i * 4) 0 ≡ 0 = upper-cell (313 + i * 4) i l (omega arith) (omega arith) in
         omega arith;
-    allowed-is = λ i l. w₅ .here i l;
+    allowed-is = w₃ .second;
   }

@@ -1,11 +1,11 @@
 // The cells of the array that don't depend on where the points are.
 ghost use mathlib.Core.Path.{_≡_};
-ghost use Prim.Native.Nat.{ℕ, _+_, _*_, _<_};
-ghost use lib.ListN.{length, getD, set};
+ghost use Prim.Native.Nat.{_+_, _*_};
+ghost use lib.ListN.{length, set};
 ghost use Rattle.format.specs.Sheet.{pointCount, labelWidth, labelHeight};
 ghost use Rattle.optimum.specs.Places.{tri, tet};
 ghost use Rattle.optimum.specs.Numbers.{blankOf, Numbers};
-ghost use Rattle.optimum.specs.Cells.{Written};
+ghost use Rattle.optimum.specs.Cells.{BothWritten};
 use crate::points::PointArray;
 
 // The number of points, and the width and height of a label.
@@ -17,53 +17,31 @@ fn write_counts(sheet: &[u8], heights: &mut PointArray)
     heights[516] = format::label_height(sheet);
 }
 
-// The triangular numbers.
-fn write_triangular(heights: &mut PointArray)
+// The triangular numbers, and the tetrahedral ones: sums of the triangular ones.
+fn write_sums(heights: &mut PointArray)
     requires { ⌜ length (now heights) ≡ 517 ⌝ }
-    ensures { λ _. ⌜ Written (λ k. 238 + k) tri 36 (now (heights .entry)) (now (heights .exit)) ⌝ }
+    ensures { λ _. ⌜ BothWritten (λ k. 238 + k) tri (λ k. 274 + k) tet 36 (now (heights .entry)) (now (heights .exit)) ⌝ }
 {
-    let mut sum: u16 = 0;
+    let mut triangular: u16 = 0;
+    let mut tetrahedral: u16 = 0;
     let mut k = 0;
     while k < 36 {
-        heights[238 + k] = sum;
-        sum += k as u16;
+        heights[238 + k] = triangular;
+        heights[274 + k] = tetrahedral;
+        tetrahedral += triangular;
+        triangular += k as u16;
         k += 1;
     }
 }
 
-// The tetrahedral numbers, each a sum of triangular ones.
-fn write_tetrahedral(heights: &mut PointArray)
-    requires { ⌜ (length (now heights) ≡ 517) × ((k : ℕ) → k < 36 → getD (now heights) (238 + k) 0 ≡ tri k) ⌝ }
-    ensures { λ _. ⌜ Written (λ k. 274 + k) tet 36 (now (heights .entry)) (now (heights .exit)) ⌝ }
-{
-    let mut sum: u16 = 0;
-    let mut k = 0;
-    while k < 36 {
-        heights[274 + k] = sum;
-        sum += heights[238 + k];
-        k += 1;
-    }
-}
-
-// Every point weighs 1: the first of its four cells.
-fn write_weights(heights: &mut PointArray)
+// Every point weighs 1, in the first of its weight's four cells, and may be inside.
+fn write_alike(heights: &mut PointArray)
     requires { ⌜ length (now heights) ≡ 517 ⌝ }
-    ensures { λ _. ⌜ Written (λ i. 310 + i * 4) (λ i. 1) 34 (now (heights .entry)) (now (heights .exit)) ⌝ }
+    ensures { λ _. ⌜ BothWritten (λ i. 310 + i * 4) (λ i. 1) (λ i. 446 + i) (λ i. 1) 34 (now (heights .entry)) (now (heights .exit)) ⌝ }
 {
     let mut i = 0;
     while i < 34 {
         heights[310 + i * 4] = 1;
-        i += 1;
-    }
-}
-
-// Every point may be inside.
-fn write_allowed(heights: &mut PointArray)
-    requires { ⌜ length (now heights) ≡ 517 ⌝ }
-    ensures { λ _. ⌜ Written (λ i. 446 + i) (λ i. 1) 34 (now (heights .entry)) (now (heights .exit)) ⌝ }
-{
-    let mut i = 0;
-    while i < 34 {
         heights[446 + i] = 1;
         i += 1;
     }
@@ -82,8 +60,6 @@ pub(crate) fn write_numbers(sheet: &[u8], heights: &mut PointArray)
     ensures { λ _. ⌜ Numbers (now (sheet .entry)) (now (heights .exit)) ⌝ }
 {
     write_counts(sheet, heights);
-    write_triangular(heights);
-    write_tetrahedral(heights);
-    write_weights(heights);
-    write_allowed(heights);
+    write_sums(heights);
+    write_alike(heights);
 }

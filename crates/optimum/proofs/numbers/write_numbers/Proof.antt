@@ -16,30 +16,20 @@ first c = c .write-counts .ensures ∙ ap (counted (c .before .before .before .a
 first-long : (c : tie.After-write-counts) → length (c .write-counts .last .1 .0) ≡ 517
 first-long c = rw (first c) (counted-long (c .before .before .before .args .sheet .now) blankOf blank-long)
 
-write-triangular-requires : tie.Need-write-triangular-requires
-write-triangular-requires c κs = first-long (c .before)
+write-sums-requires : tie.Need-write-sums-requires
+write-sums-requires c κs = first-long (c .before)
 
-write-tetrahedral-requires : tie.Need-write-tetrahedral-requires
-write-tetrahedral-requires c κs = (c .before .write-triangular .ensures .long ∙ first-long (c .before .before .before), c .before .write-triangular .ensures .here)
-
-write-weights-requires : tie.Need-write-weights-requires
-write-weights-requires c κs = c .before .write-tetrahedral .ensures .long ∙ (c .before .before .before .write-triangular .ensures .long ∙ first-long (c .before .before .before .before .before))
-
-write-allowed-requires : tie.Need-write-allowed-requires
-write-allowed-requires c κs = c .before .write-weights .ensures .long ∙ (c .before .before .before .write-tetrahedral .ensures .long ∙ (c .before .before .before .before .before .write-triangular .ensures .long ∙ first-long (c .before .before .before .before .before .before .before)))
+write-alike-requires : tie.Need-write-alike-requires
+write-alike-requires c κs = c .before .write-sums .ensures .long ∙ first-long (c .before .before .before)
 
 returns : tie.Need-returns
-returns c =
-    numbers-made _ _ _ _ _ _ (first (c .before .before .before .before .before .before .before .before)) (c .before .before .before .before .before .before .write-triangular .ensures)
-    (c .before .before .before .before .write-tetrahedral .ensures) (c .before .before .write-weights .ensures) (c .write-allowed .ensures)
+returns c = numbers-made _ _ _ _ (first (c .before .before .before .before)) (c .before .before .write-sums .ensures) (c .write-alike .ensures)
 
 pub write-numbers-spec : {M : Type 1} → statement M
 write-numbers-spec =
     tie.close
     (tie.spec
     write-counts-requires
-    write-triangular-requires
-    write-tetrahedral-requires
-    write-weights-requires
-    write-allowed-requires
+    write-sums-requires
+    write-alike-requires
     returns)
