@@ -7,7 +7,7 @@ use lib.ListN.{length, getD, set}
 use lib.Seq.{getD-set-same, getD-set-other}
 use Rattle.labeling.specs.Recurrence.{Point}
 use Rattle.labeling.specs.Tests.{same}
-use Rattle.optimum.specs.Arrays.{heightsOf, positionAt}
+use Rattle.orders.specs.Arrays.{heightsOf, positionAt}
 use Rattle.optimum.specs.Split.{Numbered}
 
 -- The marks of the points 1 to m are copied.

@@ -17,7 +17,7 @@ use Rattle.format.specs.Sheet.{pointCount, pointsOf}
 use Rattle.format.specs.Plate.{insideBelow}
 use Rattle.format.specs.Accepted.{Accepted}
 use Rattle.format.specs.MakingQuestions.{makingNo}
-use Rattle.optimum.specs.Arrays.{heightsOf, positionAt}
+use Rattle.orders.specs.Arrays.{heightsOf, positionAt}
 use Rattle.optimum.specs.Table.{Blank, Solved}
 use Rattle.optimum.specs.Prepared.{Prepared}
 use Rattle.optimum.specs.Split.{marked, outsideDown, outsidePositions}

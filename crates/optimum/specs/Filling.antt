@@ -10,7 +10,8 @@ use Rattle.labeling.specs.Tests.{not-both, same}
 use Rattle.labeling.specs.Recurrence.{Heights, value, reachesOver}
 use Rattle.labeling.specs.RecurrenceTests.{greatest-most}
 use Rattle.labeling.specs.Comparisons.{topOf, top-below}
-use Rattle.optimum.specs.Arrays.{heightsOf, Packed}
+use Rattle.orders.specs.Arrays.{heightsOf}
+use Rattle.optimum.specs.Packed.{Packed}
 use Rattle.optimum.specs.Places.{placeOf, place-same}
 use Rattle.optimum.specs.Words.{withValue, value-with, value-other}
 use Rattle.optimum.specs.Table.{limit, fitting, Last, Right, Rows, Slabs, Filling, Room, Lowest, Ready}

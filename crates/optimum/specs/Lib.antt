@@ -2,7 +2,7 @@ pub mod Choosing
 pub mod Split
 pub mod Chosen
 pub mod Places
-pub mod Arrays
+pub mod Packed
 pub mod Words
 pub mod Entry
 pub mod Conflicts
@@ -10,15 +10,7 @@ pub mod Table
 pub mod Steps
 pub mod Filling
 pub mod Recovery
-pub mod Cells
-pub mod Ranks
-pub mod Orders
 pub mod SameHeights
-pub mod Numbers
-pub mod HeightOrder
-pub mod Fits
-pub mod RightOrder
-pub mod Ordered
 pub mod Limits
 pub mod Prepared
 pub mod Written

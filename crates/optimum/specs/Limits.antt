@@ -12,7 +12,7 @@ use Rattle.labeling.specs.Tests.{same, not-both, Decides, dec-and, dec-le, dec-
 use Rattle.labeling.specs.Recurrence.{Heights, Point, Sorted, Overlap, reachesOver, greatest}
 use Rattle.labeling.specs.RecurrenceTests.{less, dec-unique, dec-map, Reaches, dec-reaches}
 use Rattle.labeling.specs.Comparisons.{least, Passes, greatest-unique, least-unique, overlapsBelow, overlapsAbove, lowOf, highOf, topOf, dec-low, dec-high}
-use Rattle.optimum.specs.Arrays.{weightAt, heightsOf, positionAt}
+use Rattle.orders.specs.Arrays.{weightAt, heightsOf, positionAt}
 use Rattle.optimum.specs.SameHeights.{SameHeights, greatest-same, sorted-same, high-same, top-same}
 
 -- DOWN TO THE GREATEST, UP TO THE LEAST

@@ -1,20 +1,11 @@
 -- The places of the table: an entry (a, b, q) with q ≤ a < b, by triangular and tetrahedral numbers.
 -- Assumes nothing.
 use mathlib.Core.Path.{_≡_, ap}
-use Prim.Native.Nat.{ℕ, zero, suc, _+_, _≤_, _<_}
+use Prim.Native.Nat.{ℕ, suc, _+_, _≤_, _<_}
 use native.Mathlib.Omega.{arith}
 use native.Mathlib.Decide.{le-ind}
 use Rattle.labeling.specs.RecurrenceTests.{less}
-
--- The sum of the numbers below a.
-unfoldable pub tri : ℕ → ℕ
-tri zero = 0
-tri (suc a) = tri a + a
-
--- The sum of the triangular numbers below b.
-unfoldable pub tet : ℕ → ℕ
-tet zero = 0
-tet (suc b) = tet b + tri b
+use Rattle.orders.specs.Sums.{tri, tet}
 
 -- The place of the entry (a, b, q).
 unfoldable pub placeOf : ℕ → ℕ → ℕ → ℕ

@@ -8,8 +8,9 @@ use Rattle.labeling.specs.Recurrence.{total}
 use Rattle.labeling.specs.Positions.{Arranged, AllAllowed}
 use Rattle.labeling.specs.Best.{oneEach}
 use Rattle.format.specs.Sheet.{pointsOf}
-use Rattle.optimum.specs.Arrays.{heightsOf, positionAt, Packed}
-use Rattle.optimum.specs.Ordered.{Ordered}
+use Rattle.orders.specs.Arrays.{heightsOf, positionAt}
+use Rattle.optimum.specs.Packed.{Packed}
+use Rattle.orders.specs.Ordered.{Ordered}
 use Rattle.optimum.specs.SameHeights.{total-same, arranged-same, allowed-same}
 use Rattle.optimum.specs.Limits.{InOrder, Limited, kept-same, kept-position, kept-order}
 

@@ -12,7 +12,8 @@ use borrow.Author.Tests.{ltb-true, ltb-false, eqb-true, eqb-false}
 use Rattle.labeling.specs.Tests.{not-both, decide, and-right}
 use Rattle.labeling.specs.Recurrence.{Heights, between, reach, value, join, outValue, takesIn, recovered}
 use Rattle.labeling.specs.RecurrenceTests.{Between, dec-between, false-of, recovered-skip, recovered-in, recovered-out}
-use Rattle.optimum.specs.Arrays.{heightsOf, Packed}
+use Rattle.orders.specs.Arrays.{heightsOf}
+use Rattle.optimum.specs.Packed.{Packed}
 use Rattle.optimum.specs.Entry.{want-out, want-in, want-on, want-skip, join-first}
 use Rattle.optimum.specs.Places.{placeOf}
 use Rattle.optimum.specs.Words.{valueAt}

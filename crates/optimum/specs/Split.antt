@@ -8,7 +8,7 @@ use lib.ListN.{length, getD}
 use Rattle.labeling.specs.Points.{Points, Choice}
 use Rattle.labeling.specs.Recurrence.{Point}
 use Rattle.labeling.specs.Positions.{Arranged}
-use Rattle.optimum.specs.Arrays.{heightsOf, positionAt}
+use Rattle.orders.specs.Arrays.{heightsOf, positionAt}
 use Rattle.optimum.specs.Written.{written}
 use native.Mathlib.Omega.{arith}
 

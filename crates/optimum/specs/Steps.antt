@@ -12,8 +12,10 @@ use Rattle.labeling.specs.Tests.{not-both, decide, same, or-right, dec-eq}
 use Rattle.labeling.specs.Recurrence.{Heights, Point, Sorted, between, reach, reachesOver, value, join, outValue, clear, good, total}
 use Rattle.labeling.specs.RecurrenceTests.{value-zero, value-skip, less, Between, dec-between, dec-reaches, Reached, reach-is, newer, older, nobody}
 use Rattle.labeling.specs.Totals.{all, value-bound}
-use Rattle.optimum.specs.Arrays.{heightsOf, Packed}
-use Rattle.optimum.specs.Places.{tri, tet, placeOf, place-below}
+use Rattle.orders.specs.Arrays.{heightsOf}
+use Rattle.optimum.specs.Packed.{Packed}
+use Rattle.orders.specs.Sums.{tri, tet}
+use Rattle.optimum.specs.Places.{placeOf, place-below}
 use Rattle.optimum.specs.Words.{valueAt}
 use Rattle.optimum.specs.Entry.{join-none, reached, reached-first, reached-none, reached-skip, reached-stop, reached-on}
 use Rattle.optimum.specs.Conflicts.{Candidate}

@@ -7,7 +7,8 @@ use Prim.Native.Nat.{ℕ, suc, _+_, _-_, _*_, _≤_, _<_, min}
 use lib.Dec.{eqb}
 use lib.ListN.{getD, length}
 use Rattle.labeling.specs.Recurrence.{Heights, Point, reachesOver, value, join, recovered, between, takesIn}
-use Rattle.optimum.specs.Arrays.{heightsOf, Packed}
+use Rattle.orders.specs.Arrays.{heightsOf}
+use Rattle.optimum.specs.Packed.{Packed}
 use Rattle.optimum.specs.Places.{placeOf}
 use Rattle.optimum.specs.Words.{valueAt}
 use Rattle.optimum.specs.Entry.{reached}

@@ -3,18 +3,19 @@ ghost use mathlib.Core.Path.{_≡_};
 ghost use Prim.Native.Nat.{_≤_};
 ghost use lib.ListN.{length, replicate};
 ghost use Rattle.format.specs.Sheet.{sheetNo};
+ghost use Rattle.orders.specs.Ordered.{Ordered};
 ghost use Rattle.optimum.specs.Table.{Room};
 ghost use Rattle.optimum.specs.Split.{Numbered};
 ghost use Rattle.optimum.specs.Choosing.{BestSplit, nothingChosen};
 ghost use Rattle.optimum.specs.Chosen.{TwoLists};
 use crate::BestChoice;
+use crate::limits::write_limits;
 use crate::lists::by_position;
 use crate::lists::list_inside;
 use crate::lists::list_outside;
 use crate::lists::zeros;
-use crate::points::PointArray;
-use crate::prepare::prepare;
 use crate::recovery::solve;
+use orders::PointArray;
 
 // No point is marked yet.
 fn none_marked() -> [u8; 34]
@@ -65,12 +66,13 @@ fn two_lists(n: u8, heights: &PointArray, marks: &[u8; 32]) -> BestChoice
     }
 }
 
-// A best choice of an accepted sheet, and a workspace of zeros.
-pub(crate) fn chosen(sheet: &[u8], workspace: &mut [u16]) -> BestChoice
-    requires { ⌜ (sheetNo (now sheet) ≡ 0) × Room (now workspace) ⌝ }
+// A best choice of an accepted sheet, whose points are in order, and a workspace of zeros.
+pub(crate) fn chosen(sheet: &[u8], points: PointArray, workspace: &mut [u16]) -> BestChoice
+    requires { ⌜ (sheetNo (now sheet) ≡ 0) × Ordered (now sheet) points × Room (now workspace) ⌝ }
     ensures { λ r. ⌜ (r .number ≡ 0) × BestSplit (now (sheet .entry)) r × (now (workspace .exit) ≡ replicate (length (now (workspace .entry))) 0) ⌝ }
 {
-    let heights = prepare(sheet);
+    let mut heights = points;
+    write_limits(&mut heights);
     let mut mark = none_marked();
     solve(&heights, workspace, &mut mark);
     clear(workspace);

@@ -2,9 +2,9 @@
 ghost use mathlib.Core.Path.{_≡_};
 ghost use Prim.Native.Nat.{_+_, _<_, _≤_};
 ghost use Rattle.labeling.specs.Recurrence.{Point, overlaps, reachesOver, reach, good, clear};
-ghost use Rattle.optimum.specs.Arrays.{heightsOf, Packed};
+ghost use Rattle.orders.specs.Arrays.{heightsOf};
+ghost use Rattle.optimum.specs.Packed.{Packed};
 ghost use Rattle.optimum.specs.Conflicts.{near, endsBelow, Candidate};
-use crate::points::PointArray;
 use crate::points::allowed_at;
 use crate::points::column_at;
 use crate::points::high_at;
@@ -15,6 +15,7 @@ use crate::points::point_count;
 use crate::points::row_at;
 use crate::points::top_at;
 use crate::table::State;
+use orders::PointArray;
 
 // Two stretches of length d, from x and from y on, meet.
 fn stretches_meet(x: usize, y: usize, d: usize) -> bool

@@ -2,10 +2,10 @@
 ghost use mathlib.Core.Path.{_≡_};
 ghost use Prim.Native.Nat.{_+_, _<_, _≤_};
 ghost use lib.ListN.{length};
-ghost use Rattle.optimum.specs.Arrays.{heightsOf, Packed};
+ghost use Rattle.orders.specs.Arrays.{heightsOf};
+ghost use Rattle.optimum.specs.Packed.{Packed};
 ghost use Rattle.optimum.specs.Table.{fitting, Last, Room, Rows, Slabs, Filling, Lowest};
 use crate::conflicts::reaches_over;
-use crate::points::PointArray;
 use crate::points::point_count;
 use crate::points::rank_at;
 use crate::points::top_at;
@@ -14,6 +14,7 @@ use crate::table::place;
 use crate::table::write_value;
 use crate::values::entry;
 use crate::values::lesser;
+use orders::PointArray;
 
 // The table has an entry for q with the lower end a: q is 0, or its label reaches over a.
 fn has_entry(heights: &PointArray, a: usize, q: usize) -> bool

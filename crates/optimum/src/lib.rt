@@ -2,21 +2,15 @@
 ghost use Rattle.optimum.specs.Choosing.{Choosing};
 use choosing::chosen;
 use choosing::nothing_chosen;
-use questions::making_no;
+use orders::ordered_points;
 
 mod choosing;
 mod conflicts;
 mod filling;
-mod height_order;
 mod limits;
 mod lists;
-mod numbers;
 mod points;
-mod prepare;
-mod questions;
-mod ranks;
 mod recovery;
-mod right_order;
 mod table;
 mod values;
 
@@ -34,9 +28,10 @@ pub struct BestChoice {
 pub fn best_choice(sheet: &[u8], room: usize, workspace: &mut [u16]) -> BestChoice
     ensures { λ r. ⌜ Choosing (now (sheet .entry)) room (now (workspace .entry)) r (now (workspace .exit)) ⌝ }
 {
-    let number = making_no(sheet, room, workspace.len());
-    if number != 0 {
-        return nothing_chosen(number);
+    let points = ordered_points(sheet, room, workspace.len());
+    if points.number != 0 {
+        return nothing_chosen(points.number);
     }
-    chosen(sheet, workspace)
+    let heights = points.heights;
+    chosen(sheet, heights, workspace)
 }

@@ -3,14 +3,14 @@ ghost use mathlib.Core.Path.{_≡_};
 ghost use Prim.Native.Nat.{_+_, _<_};
 ghost use Rattle.labeling.specs.Recurrence.{Point};
 ghost use Rattle.labeling.specs.Comparisons.{highOf, topOf};
-ghost use Rattle.optimum.specs.Arrays.{heightsOf};
+ghost use Rattle.orders.specs.Arrays.{heightsOf};
 ghost use Rattle.optimum.specs.Limits.{labelBelow, columnWithin, InOrder, Limited};
-use crate::points::PointArray;
 use crate::points::column_at;
 use crate::points::label_height;
 use crate::points::label_width;
 use crate::points::point_count;
 use crate::points::row_at;
+use orders::PointArray;
 
 // The label of i ends below the row of j.
 fn label_below(heights: &PointArray, i: usize, j: usize) -> bool

@@ -4,11 +4,11 @@ ghost use Prim.Native.Nat.{ℕ, _<_, _≤_};
 ghost use lib.ListN.{length, getD, replicate};
 ghost use Rattle.labeling.specs.Recurrence.{Point};
 ghost use Rattle.format.specs.Plate.{insideBelow};
-ghost use Rattle.optimum.specs.Arrays.{heightsOf, positionAt};
+ghost use Rattle.orders.specs.Arrays.{heightsOf, positionAt};
 ghost use Rattle.optimum.specs.Written.{written};
 ghost use Rattle.optimum.specs.Split.{marked, outsidePositions, Numbered};
-use crate::points::PointArray;
 use crate::points::point_count;
+use orders::PointArray;
 
 // A byte as an index.
 fn index(b: u8) -> usize

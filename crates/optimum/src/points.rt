@@ -1,14 +1,13 @@
-// Reading the points in height order from their array. specs/Arrays.antt has its layout: field after field, 34 cells each.
+// Reading the points in height order from their array. orders/specs/Arrays.antt has its layout: field after field, 34 cells each.
 ghost use mathlib.Core.Path.{_≡_};
 ghost use Prim.Native.Nat.{_+_, _*_, _<_};
 ghost use lib.ListN.{getD};
 ghost use Rattle.labeling.specs.Recurrence.{Point};
 ghost use Rattle.labeling.specs.Comparisons.{lowOf, highOf, topOf};
-ghost use Rattle.optimum.specs.Arrays.{heightsOf, Packed};
-ghost use Rattle.optimum.specs.Places.{tri, tet};
-
-// The array of the points.
-pub(crate) type PointArray = [u16; 517];
+ghost use Rattle.orders.specs.Arrays.{heightsOf};
+ghost use Rattle.optimum.specs.Packed.{Packed};
+ghost use Rattle.orders.specs.Sums.{tri, tet};
+use orders::PointArray;
 
 // A cell as a number of 64 bits.
 fn wide(x: u16) -> u64

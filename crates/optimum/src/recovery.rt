@@ -4,11 +4,11 @@ ghost use mathlib.Core.Path.{_≡_};
 ghost use Prim.Native.Nat.{suc, _+_, _<_, _≤_};
 ghost use lib.ListN.{length};
 ghost use Rattle.labeling.specs.Recurrence.{join, value};
-ghost use Rattle.optimum.specs.Arrays.{heightsOf, Packed};
+ghost use Rattle.orders.specs.Arrays.{heightsOf};
+ghost use Rattle.optimum.specs.Packed.{Packed};
 ghost use Rattle.optimum.specs.Table.{limit, Proper, Ready, Room, Full, Marked, Took, CutAt, MarkedDown, Blank, Solved};
 use crate::conflicts::reaching_over;
 use crate::filling::fill;
-use crate::points::PointArray;
 use crate::points::at_rank;
 use crate::points::point_count;
 use crate::points::weight_at;
@@ -18,6 +18,7 @@ use crate::table::place;
 use crate::table::read_value;
 use crate::values::open_below;
 use crate::values::outside_value;
+use orders::PointArray;
 
 // What a step of the recovery leaves: one more than the weight of the points put inside so far, and whether the slab is cut here.
 struct Taken {

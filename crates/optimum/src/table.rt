@@ -3,14 +3,15 @@ ghost use mathlib.Core.Path.{_≡_};
 ghost use Prim.Native.Nat.{_+_, _*_, _<_};
 ghost use lib.ListN.{length};
 ghost use Rattle.labeling.specs.Recurrence.{between};
-ghost use Rattle.optimum.specs.Arrays.{heightsOf, Packed};
+ghost use Rattle.orders.specs.Arrays.{heightsOf};
+ghost use Rattle.optimum.specs.Packed.{Packed};
 ghost use Rattle.optimum.specs.Places.{placeOf};
 ghost use Rattle.optimum.specs.Words.{valueAt, withValue};
 ghost use Rattle.optimum.specs.Table.{Proper};
-use crate::points::PointArray;
 use crate::points::four_cells;
 use crate::points::tetrahedral;
 use crate::points::triangular;
+use orders::PointArray;
 use std::num::wrapping_sub_usize;
 
 // A slab (a, b, q in specs/): its lower and upper ends, each a boundary or an outside point, and the inside point from below whose

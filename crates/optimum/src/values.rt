@@ -3,12 +3,11 @@ ghost use mathlib.Core.Path.{_≡_};
 ghost use mathlib.Core.Bool.{false};
 ghost use Prim.Native.Nat.{_+_, _<_, _≤_, min, max};
 ghost use Rattle.labeling.specs.Recurrence.{join, value, outValue};
-ghost use Rattle.optimum.specs.Arrays.{heightsOf};
+ghost use Rattle.orders.specs.Arrays.{heightsOf};
 ghost use Rattle.optimum.specs.Table.{limit, Lowest, Ready, Opened, Stepped};
 use crate::conflicts::may_be_inside;
 use crate::conflicts::reaching_over;
 use crate::conflicts::rows_differ;
-use crate::points::PointArray;
 use crate::points::at_rank;
 use crate::points::rank_at;
 use crate::points::weight_at;
@@ -16,6 +15,7 @@ use crate::table::State;
 use crate::table::is_between;
 use crate::table::place;
 use crate::table::read_value;
+use orders::PointArray;
 
 // Where the loop of an entry stands: the best value with a point left outside so far, one more than the weight of the points put
 // inside so far, and whether the loop ends here.

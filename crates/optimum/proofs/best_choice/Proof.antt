@@ -1,26 +1,28 @@
 -- `optimum::best_choice` meets its contract. Assumes nothing.
-use borrow.Author.Needs.{needs}
 use mathlib.Core.Path.{sym, _∙_}
 use native.Mathlib.Omega.{arith}
 use Rattle.format.specs.Accepted.{none-sheet}
 use Rattle.format.specs.MakingQuestions.{none-making}
 use Rattle.optimum.specs.Chosen.{refused-choosing, chosen-choosing}
+use borrow.Author.Needs.{needs}
 use Rattle.optimum.proofs.best_choice.Statement.{statement}
 use Rattle.optimum.proofs.best_choice.Tie as tie
 
-making-no-requires : tie.Need-making-no-requires
-making-no-requires c κs = search needs
+ordered-points-requires : tie.Need-ordered-points-requires
+ordered-points-requires c κs = search needs
 
 nothing-chosen-requires : tie.Need-nothing-chosen-requires
 nothing-chosen-requires c κs = search needs
 
 returns : tie.Need-returns
-returns c = rw (c .nothing-chosen .ensures) (refused-choosing _ _ _ _ (c .before .before .making-no .ensures) (c .before .if1 .taken))
+returns c = rw (c .nothing-chosen .ensures) (refused-choosing _ _ _ _ (c .before .before .before .ordered-points .ensures .number) (c .before .if1 .taken))
 
 chosen-requires : tie.Need-chosen-requires
 chosen-requires c κs =
-    let f = none-making _ _ _ .is (sym (c .before .before .making-no .ensures) ∙ c .before .if1 .left) in
-    (none-sheet _ .of (f .0), omega (arith, f .1 .1 .0))
+    let points = c .before .before .before .before .ordered-points .ensures in
+    let none = c .before .before .if1 .left in
+    let f = none-making _ _ _ .is (sym (points .number) ∙ none) in
+    (none-sheet _ .of (f .0), points .ordered none, omega (arith, f .1 .1 .0))
 
 same-length : tie.Need-same-length
 same-length c = search needs
@@ -28,13 +30,13 @@ same-length c = search needs
 returns-2 : tie.Need-returns-2
 returns-2 c =
     let r = c .before .before .chosen in
-    chosen-choosing _ _ _ _ (r .result) (sym (c .before .before .before .before .before .making-no .ensures) ∙ c .before .before .before .before .if1 .left) (r .ensures .0) (r .ensures .2) (r .ensures .1)
+    chosen-choosing _ _ _ _ (r .result) (sym (c .before .before .before .before .before .before .before .ordered-points .ensures .number) ∙ c .before .before .before .before .before .if1 .left) (r .ensures .0) (r .ensures .2) (r .ensures .1)
 
 pub best-choice-spec : {M : Type 1} → statement M
 best-choice-spec =
     tie.close
     (tie.spec
-    making-no-requires
+    ordered-points-requires
     nothing-chosen-requires
     returns
     chosen-requires

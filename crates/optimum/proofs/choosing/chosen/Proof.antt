@@ -1,12 +1,13 @@
 -- `optimum::choosing::chosen` meets its contract: the calls in turn. Assumes nothing.
-use borrow.Author.Needs.{needs}
 use mathlib.Core.Path.{_∙_, ap}
 use Prim.Native.Nat.{ℕ}
 use native.Mathlib.Omega.{arith}
 use lib.ListN.{replicate}
 use Rattle.format.specs.Accepted.{Accepted, accepted}
+use Rattle.optimum.specs.Prepared.{Prepared, prepared}
 use Rattle.optimum.specs.Split.{numbered}
 use Rattle.optimum.specs.Chosen.{none-blank, best-split}
+use borrow.Author.Needs.{needs}
 use Rattle.optimum.proofs.choosing.chosen.Statement.{statement}
 use Rattle.optimum.proofs.choosing.chosen.Tie as tie
 
@@ -14,47 +15,54 @@ use Rattle.optimum.proofs.choosing.chosen.Tie as tie
 fine : (c : tie.Start) → Accepted (c .args .sheet .now)
 fine c = accepted _ (c .pre .0)
 
-prepare-requires : tie.Need-prepare-requires
-prepare-requires c κs = search needs
+-- the array is ready for the table
+ready : (c : tie.After-write-limits) → Prepared (c .before .before .before .before .args .sheet .now) (c .write-limits .last .0)
+ready c = prepared (c .before .before .before .before .pre .1) (c .write-limits .ensures)
+
+write-limits-requires : tie.Need-write-limits-requires
+write-limits-requires c κs = search needs
 
 none-marked-requires : tie.Need-none-marked-requires
 none-marked-requires c κs = search needs
 
 solve-requires : tie.Need-solve-requires
-solve-requires c κs = (c .before .before .before .before .prepare .ensures .packed, c .before .before .before .before .before .before .before .pre .1, rw (c .before .before .before .none-marked .ensures) none-blank)
+solve-requires c κs = (ready (c .before .before .before .before) .packed, c .before .before .before .before .before .before .before .before .pre .2, rw (c .before .before .before .none-marked .ensures) none-blank)
 
 clear-requires : tie.Need-clear-requires
 clear-requires c κs = search needs
 
 by-position-requires : tie.Need-by-position-requires
 by-position-requires c κs =
-    let f = fine (c .before .before .before .before .before .before .before .before .before .before .before .before .before .before .before .before) in
-    numbered _ (f .proper .few) (c .before .before .before .before .before .before .before .before .before .before .before .before .before .prepare .ensures .arranged)
+    let limits = c .before .before .before .before .before .before .before .before .before .before .before .before .before in
+    numbered _ (fine (limits .before .before .before .before) .proper .few) (ready limits .arranged)
 
 point-count-requires : tie.Need-point-count-requires
 point-count-requires c κs = search needs
 
 two-lists-requires : tie.Need-two-lists-requires
 two-lists-requires c κs =
-    let f = fine (c .before .before .before .before .before .before .before .before .before .before .before .before .before .before .before .before .before .before .before .before) in
-    (omega (arith, f .proper .few, c .before .before .point-count .ensures), numbered _ (f .proper .few) (c .before .before .before .before .before .before .before .before .before .before .before .before .before .before .before .before .before .prepare .ensures .arranged))
+    let limits = c .before .before .before .before .before .before .before .before .before .before .before .before .before .before .before .before .before in
+    let f = fine (limits .before .before .before .before) in
+    (omega (arith, f .proper .few, c .before .before .point-count .ensures), numbered _ (f .proper .few) (ready limits .arranged))
 
 same-length : tie.Need-same-length
 same-length c = search needs
 
 returns : tie.Need-returns
 returns c =
-    let f = fine (c .before .before .before .before .before .before .before .before .before .before .before .before .before .before .before .before .before .before .before .before .before) in
-    let p = c .before .before .before .before .before .before .before .before .before .before .before .before .before .before .before .before .before .before .prepare .ensures in
+    let limits = c .before .before .before .before .before .before .before .before .before .before .before .before .before .before .before .before .before .before in
     let solved = c .before .before .before .before .before .before .before .before .before .before .before .before .before .solve .ensures in
-    let lists = rw (c .before .before .before .point-count .ensures) at (c .two-lists .ensures) in
-    (lists .number, best-split _ _ _ _ f p (solved .0) (record { at = c .before .before .before .before .by-position .ensures }) (c .two-lists .result) lists, c .before .before .before .before .before .before .before .before .before .clear .ensures ∙ ap (λ (n : ℕ). replicate n 0) (solved .2))
+    let lists = rw (c .before .before .before .point-count .ensures) at (c .two-lists .ensures) in (
+      lists .number,
+      best-split _ _ _ _ (fine (limits .before .before .before .before)) (ready limits) (solved .0) (record { at = c .before .before .before .before .by-position .ensures }) (c .two-lists .result) lists,
+      c .before .before .before .before .before .before .before .before .before .clear .ensures ∙ ap (λ (n : ℕ). replicate n 0) (solved .2),
+    )
 
 pub chosen-spec : {M : Type 1} → statement M
 chosen-spec =
     tie.close
     (tie.spec
-    prepare-requires
+    write-limits-requires
     none-marked-requires
     solve-requires
     clear-requires

@@ -2,7 +2,7 @@
 use borrow.Author.Needs.{needs}
 use mathlib.Core.Path.{_∙_, refl}
 use native.Mathlib.Omega.{arith}
-use Rattle.optimum.specs.Arrays.{heightsOf, positionAt}
+use Rattle.orders.specs.Arrays.{heightsOf, positionAt}
 use Rattle.optimum.specs.Split.{marked}
 use Rattle.optimum.specs.Lists.{inside-few, down-few, written-padded}
 use Rattle.optimum.proofs.choosing.two_lists.Statement.{statement}

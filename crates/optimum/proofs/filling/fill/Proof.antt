@@ -1,7 +1,7 @@
 -- `optimum::filling::fill` meets its contract: b ascends. Assumes nothing.
 use Rattle.optimum.specs.Filling.{rows-first, rows-last}
 use Rattle.optimum.specs.Table.{Rows}
-use Rattle.optimum.specs.Arrays.{heightsOf}
+use Rattle.orders.specs.Arrays.{heightsOf}
 use lib.ListN.{length}
 use Prim.Native.Nat.{_+_, _-_, _≤_}
 use mathlib.Core.Path.{_≡_, refl, _∙_}

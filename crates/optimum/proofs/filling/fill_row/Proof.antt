@@ -1,7 +1,7 @@
 -- `optimum::filling::fill_row` meets its contract: a descends. Assumes nothing.
 use Rattle.optimum.specs.Filling.{slabs-first, slabs-next, slabs-last, lowest-first, lowest-next, lowest-with}
 use Rattle.optimum.specs.Table.{Rows, Slabs, Lowest}
-use Rattle.optimum.specs.Arrays.{heightsOf}
+use Rattle.orders.specs.Arrays.{heightsOf}
 use lib.ListN.{length}
 use Prim.Native.Nat.{_≤_}
 use mathlib.Core.Path.{_≡_, refl, _∙_}

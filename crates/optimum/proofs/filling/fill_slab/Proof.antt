@@ -1,7 +1,7 @@
 -- `optimum::filling::fill_slab` meets its contract: q ascends. Assumes nothing.
 use Rattle.optimum.specs.Filling.{filling-first, filling-last}
 use Rattle.optimum.specs.Table.{Filling, Last}
-use Rattle.optimum.specs.Arrays.{heightsOf}
+use Rattle.orders.specs.Arrays.{heightsOf}
 use lib.ListN.{length}
 use Prim.Native.Nat.{_+_, _-_, _≤_}
 use mathlib.Core.Path.{_≡_, refl, _∙_}

@@ -2,7 +2,7 @@
 use mathlib.Core.Path.{_≡_, sym, _∙_}
 use Prim.Native.Nat.{_<_, _+_}
 use Rattle.labeling.specs.Recurrence.{reachesOver}
-use Rattle.optimum.specs.Arrays.{heightsOf}
+use Rattle.orders.specs.Arrays.{heightsOf}
 use Rattle.optimum.specs.Limits.{AtMost, top-start, top-ends, top-found, top-next, top-none}
 use native.Mathlib.Omega.{arith}
 use borrow.Author.Needs.{needs}

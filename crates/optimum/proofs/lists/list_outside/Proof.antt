@@ -10,7 +10,7 @@ use lib.ListN.{length, length-set}
 use native.Mathlib.Omega.{arith}
 use Rattle.labeling.specs.Points.{Choice}
 use Rattle.labeling.specs.Recurrence.{Point}
-use Rattle.optimum.specs.Arrays.{heightsOf, positionAt}
+use Rattle.orders.specs.Arrays.{heightsOf, positionAt}
 use Rattle.optimum.specs.Split.{marked, outsideDown, outsidePositions, Listed}
 use Rattle.optimum.specs.Outside.{down-inside, down-outside}
 use Rattle.optimum.specs.Lists.{listed-none, listed-more, listed-whole}

@@ -1,6 +1,6 @@
 -- `optimum::lists::position_at` meets its contract: the cell is the one that `positionAt` reads. Assumes nothing.
 use borrow.Author.Needs.{needs}
-use Rattle.optimum.specs.Arrays.{positionAt}
+use Rattle.orders.specs.Arrays.{positionAt}
 use Rattle.optimum.proofs.lists.position_at.Statement.{statement}
 use Rattle.optimum.proofs.lists.position_at.Tie as tie
 

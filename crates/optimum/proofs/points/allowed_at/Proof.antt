@@ -1,6 +1,6 @@
 -- `optimum::points::allowed_at` meets its contract: the cell is the one that `heightsOf` reads. Assumes nothing.
 use borrow.Author.Needs.{needs}
-use Rattle.optimum.specs.Arrays.{heightsOf}
+use Rattle.orders.specs.Arrays.{heightsOf}
 use Rattle.optimum.proofs.points.allowed_at.Statement.{statement}
 use Rattle.optimum.proofs.points.allowed_at.Tie as tie
 

@@ -1,6 +1,6 @@
 -- `optimum::points::weight_at` meets its contract: the cells are those that `heightsOf` reads. Assumes nothing.
 use borrow.Author.Needs.{needs}
-use Rattle.optimum.specs.Arrays.{heightsOf, weightAt}
+use Rattle.orders.specs.Arrays.{heightsOf, weightAt}
 use Rattle.optimum.proofs.points.weight_at.Statement.{statement}
 use Rattle.optimum.proofs.points.weight_at.Tie as tie
 

@@ -2,7 +2,7 @@
 use mathlib.Core.Path.{_∙_}
 use Rattle.optimum.specs.Recovery.{ready-of, recovering-first, recovering-value, recovering-next, recovering-cut, recovering-last}
 use Rattle.optimum.specs.Table.{Recovering}
-use Rattle.optimum.specs.Arrays.{heightsOf}
+use Rattle.orders.specs.Arrays.{heightsOf}
 use borrow.Author.Needs.{needs}
 use native.Mathlib.Omega.{arith}
 use Rattle.optimum.proofs.recovery.mark_until_cut.Statement.{statement}

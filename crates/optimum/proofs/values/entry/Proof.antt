@@ -1,7 +1,7 @@
 -- `optimum::values::entry` meets its contract: the loop keeps what the entry comes to. Assumes nothing.
 use Rattle.optimum.specs.Steps.{limit-n, running-first, running-next, running-stop, running-last}
 use Rattle.optimum.specs.Table.{Running}
-use Rattle.optimum.specs.Arrays.{heightsOf}
+use Rattle.orders.specs.Arrays.{heightsOf}
 use native.Mathlib.Omega.{arith}
 use borrow.Author.Needs.{needs}
 use Rattle.optimum.proofs.values.entry.Statement.{statement}

@@ -1,0 +1,11 @@
+pub mod Ordering
+pub mod Arrays
+pub mod Sums
+pub mod Cells
+pub mod Ranks
+pub mod Orders
+pub mod Numbers
+pub mod HeightOrder
+pub mod Fits
+pub mod RightOrder
+pub mod Ordered

@@ -1,0 +1,55 @@
+// The points of a sheet in both orders, in the array that a best choice is made from.
+ghost use mathlib.Core.Path.{_≡_};
+ghost use Rattle.format.specs.Sheet.{sheetNo};
+ghost use Rattle.orders.specs.Ordered.{Ordered};
+ghost use Rattle.orders.specs.Ordering.{Ordering};
+use height_order::write_points;
+use numbers::blank;
+use numbers::write_numbers;
+use questions::making_no;
+use right_order::write_right_order;
+
+mod height_order;
+mod numbers;
+mod questions;
+mod ranks;
+mod right_order;
+
+// The array of the points. specs/Arrays.antt has its layout: field after field, 34 cells each.
+pub type PointArray = [u16; 517];
+
+// The points in both orders, or why there are none: the number of the first no, 0 for none.
+pub struct OrderedPoints {
+    pub number: u8,
+    pub heights: [u16; 517],
+}
+
+// The array of an accepted sheet.
+fn both_orders(sheet: &[u8]) -> PointArray
+    requires { ⌜ sheetNo (now sheet) ≡ 0 ⌝ }
+    ensures { λ r. ⌜ Ordered (now (sheet .entry)) r ⌝ }
+{
+    let mut heights = blank();
+    write_numbers(sheet, &mut heights);
+    write_points(sheet, &mut heights);
+    write_right_order(format::point_count(sheet) as usize, &mut heights);
+    heights
+}
+
+// The questions of making, for an output of `room` bytes and a workspace of `cells` numbers; and the points of the sheet in both orders,
+// where none is answered no.
+pub fn ordered_points(sheet: &[u8], room: usize, cells: usize) -> OrderedPoints
+    ensures { λ r. ⌜ Ordering (now (sheet .entry)) room cells r ⌝ }
+{
+    let number = making_no(sheet, room, cells);
+    if number != 0 {
+        return OrderedPoints {
+            number,
+            heights: blank(),
+        };
+    }
+    OrderedPoints {
+        number: 0,
+        heights: both_orders(sheet),
+    }
+}
