@@ -4,6 +4,7 @@ use format::label_height;
 use format::label_width;
 use format::point_count;
 use format::row;
+use format::within;
 ghost use mathlib.Core.Path.{_≡_};
 ghost use Prim.Native.Nat.{_+_, _<_};
 ghost use mathlib.Core.Bool.{_&&_};
@@ -64,13 +65,6 @@ pub fn choice_of(list: &[u8]) -> [bool; 256]
         k += 1;
     }
     inside
-}
-
-// `a` is less than `length` above `b`, or below it.
-pub fn within(a: u16, b: u16, length: u16) -> bool
-    ensures { λ r. ⌜ r ≡ ltb a (b + length) ⌝ }
-{
-    (a as u32) < b as u32 + length as u32
 }
 
 // Two stretches of one length, from `a` and from `b`, share a place.

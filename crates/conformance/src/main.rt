@@ -10,6 +10,7 @@ use libc::STDIN_FILENO;
 use libc::STDOUT_FILENO;
 use plate_maker::MakeAnswer;
 use plate_reader::PlateAnswer;
+use plate_reader::inside_count;
 ghost use Prim.Native.Nat.{_≤_};
 ghost use lib.ListN.{length};
 
@@ -41,10 +42,6 @@ fn print_refusal(number: u8) {
 }
 
 // SHEETS AND PLATES
-
-fn inside_count(plate: &[u8]) -> u8 {
-    format::byte_at(plate, 10 + 6 * format::point_count(plate) as usize)
-}
 
 fn print_validity(plate: &[u8]) {
     match plate_reader::read_plate(plate) {

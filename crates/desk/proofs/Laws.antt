@@ -1,6 +1,6 @@
 -- Facts about the questions and the bytes, for the proofs of this crate. Assumes nothing.
 use mathlib.Core.Path.{_≡_, refl, sym, ap, ap₂, _∙_}
-use mathlib.Core.Bool.{Bool, true, false, not, true≢false}
+use mathlib.Core.Bool.{true, false, not, true≢false}
 use mathlib.Core.List.{List, [], _∷_, _++_}
 use Prim.Native.Nat.{ℕ, zero, suc, _+_, _-_, _*_, _≤_, _<_}
 use lib.Dec.{ltb, eqb}
@@ -9,7 +9,7 @@ use lib.Seq.{take-all}
 use borrow.Author.Tests.{eq-eqb, ne-eqb, eqb-true, le-leb}
 use native.Mathlib.Omega.{arith}
 use native.Mathlib.Numerals.{add-one}
-use Rattle.labeling.specs.Tests.{decide, same, Decides}
+use Rattle.labeling.specs.Tests.{decide, same}
 use Rattle.labeling.specs.Best.{bestCount}
 use Rattle.format.specs.Sheet.{pointCount, pointsOf, sheetNo}
 use Rattle.format.specs.Accepted.{accepted}
@@ -32,10 +32,6 @@ use Rattle.desk.specs.declared.Desk.{Desk}
 use Rattle.desk.specs.declared.LoadAnswer.the-variants.{Accepted}
 use Rattle.desk.specs.declared.LoadResult.{LoadResult}
 use Rattle.desk.specs.declared.Verdict.the-variants.{Valid, Clash as ClashVerdict}
-
--- a fact that does not hold
-pub decides-no : {b : Bool} {A : Type 0} → Decides b A → (A → ⊥) → b ≡ false
-decides-no {b} d f = decide b (λ e. absurd (f (d .is e))) (λ e. e)
 
 -- the bytes after the first, as the code lends them
 pub all-after : (l : List ℕ) → take (length l - 1) (drop 1 l) ≡ drop 1 l

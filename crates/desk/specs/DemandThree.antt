@@ -21,7 +21,7 @@ use Rattle.labeling.specs.Tests.{not-both, decide}
 use Rattle.format.specs.Sheet.{pointCount, pointsOf}
 use Rattle.format.specs.Accepted.{Accepted}
 use Rattle.format.specs.Plate.{choiceOf, insideBelow, plateOf}
-use Rattle.format.specs.PlateLength.{inside-length}
+use Rattle.format.specs.PlateLength.{inside-length, bestLength, best-length}
 use Rattle.clash.specs.declared.ClashKind.{ClashKind}
 use Rattle.clash.specs.declared.Clash.{Clash}
 use Rattle.clash.specs.declared.Clash.the-variants.{None, Between}
@@ -29,14 +29,14 @@ use Rattle.clash.specs.FirstClash.{isClash, firstClash}
 use Rattle.clash.specs.ClashPixels.{Named, FirstClashRight, first-clash-right}
 use Rattle.plate_reader.specs.InsideList.{choice-of-list, inside-ascending}
 use Rattle.format.specs.MakingQuestions.{makingNo, workspaceAfter}
-use Rattle.plate_maker.specs.Making.{bestLength, makeOutcome, makeOutcomeOf, BestOutput, Making}
+use Rattle.plate_maker.specs.Making.{makeOutcome, makeOutcomeOf, BestOutput, Making}
 use Rattle.plate_maker.specs.declared.MakeAnswer.{MakeAnswer}
 use Rattle.plate_maker.specs.declared.MakeAnswer.the-variants.{Made, Refused}
 use Rattle.desk.specs.Questions.{loadNo, positions, listCount, listNo, loadedListNo, markNo}
 use Rattle.desk.specs.Desk.{padded, fresh, loadOf, loadOutcome, verdictBy, verdictOf, firstNo, withLast, markOf, markOutcome}
 use Rattle.desk.specs.DeskLaws.{load-yes, load-no, none-load, mark-yes, mark-no, none-mark}
 use Rattle.desk.specs.Lists.{Listed, none-list, list-count, choice-listed}
-use Rattle.desk.specs.Loaded.{points-same, count-same, sectionRead, section-read, plate-best-length}
+use Rattle.desk.specs.Loaded.{points-same, count-same, sectionRead, section-read}
 use Rattle.desk.specs.declared.Desk.{Desk}
 use Rattle.desk.specs.declared.Verdict.{Verdict}
 use Rattle.desk.specs.declared.Verdict.the-variants.{Valid as ValidVerdict, Clash as ClashVerdict}
@@ -298,7 +298,7 @@ plate-made-best s p a m = by (m .answer) (m .made) (m .not-refused) (m .plate)
         let S = x .choice in
         let z : 0 ≡ makingNo s (length o) (length w) = λ i. m .outcome i .number in
         let n : r ≡ bestLength s = (λ i. m .outcome i .written) ∙ ap (λ k. makeOutcomeOf s k .written) (sym z) in
-        let g : length (plateOf s S) ≡ r = plate-best-length s S a (x .best) ∙ sym n in
+        let g : length (plateOf s S) ≡ r = best-length s S a (x .best) ∙ sym n in
         let h : p ≡ plateOf s S = q ∙ ap (take r) (x .plate) ∙ take-at (plateOf s S) (drop (length (plateOf s S)) o) r g in
         rw (h, section-read s S a) (choice-best s a S (x .valid) (x .best))
 

@@ -1,14 +1,14 @@
 -- What the questions 31 to 33 ask, as facts: a list without a no is its count byte and an ascending list of positions below n, and its
 -- count is the inside count of the choice that it stands for. Assumes nothing.
 use mathlib.Core.Path.{_≡_, refl, sym, ap, _∙_}
-use mathlib.Core.Bool.{Bool, true}
+use mathlib.Core.Bool.{true}
 use mathlib.Core.List.{List, [], _∷_}
 use Prim.Native.Nat.{ℕ, zero, suc, _+_, _<_}
 use lib.Dec.{ltb, eqb}
 use lib.ListN.{length, getD}
 use borrow.Author.Tests.{eqb-true, eqb-false, eq-eqb}
 use native.Mathlib.Omega.{arith}
-use Rattle.labeling.specs.Tests.{decide, same, Decides, dec-lt, dec-eq, dec-and, and-both}
+use Rattle.labeling.specs.Tests.{decide, same, Decides, dec-lt, dec-eq, dec-and, and-both, dec-true}
 use Rattle.labeling.specs.Best.{weight, count}
 use Rattle.format.specs.Sheet.{pointCount, pointsOf}
 use Rattle.format.specs.Accepted.{NoneOf, none-ask, none-left}
@@ -23,9 +23,6 @@ use Rattle.desk.specs.Questions.{positions, listCount, countRight, above
 -- What 32 and 33 ask of entry k.
 Entry : ℕ → List ℕ → ℕ → Type 0
 Entry n p k = (getD p k 0 < n) × ((aboveBefore p k ≡ true) × Unit {0})
-
-dec-true : (b : Bool) → Decides b (b ≡ true)
-dec-true b = record { is = λ e. e; of = λ e. e }
 
 none-entry : (n : ℕ) (p : List ℕ) (k : ℕ) → NoneOf (entryNo n p k) (Entry n p k)
 unfolding entryNo Entry

@@ -10,14 +10,13 @@ use borrow.Author.Tests.{ltb-true, ltb-false}
 use native.Mathlib.Omega.{arith}
 use Rattle.labeling.specs.Tests.{decide}
 use Rattle.labeling.specs.Points.{Choice, outside, placed}
-use Rattle.labeling.specs.Best.{weight, count, bestCount}
+use Rattle.labeling.specs.Best.{weight, count}
 use Rattle.format.specs.Sheet.{twoBytes, pointCount, pointsOf}
 use Rattle.format.specs.Accepted.{Accepted}
 use Rattle.format.specs.Plate.{insideBelow, insideSection, outsideSection, pairs, plateOf}
-use Rattle.format.specs.PlateLength.{inside-length, inside-outside, plate-length}
+use Rattle.format.specs.PlateLength.{inside-length}
 use Rattle.plate_reader.specs.PlateQuestions.{sheetLength, insideCount}
 use Rattle.plate_reader.specs.PlateSections.{Parts, read-back}
-use Rattle.plate_maker.specs.Making.{bestLength}
 use Rattle.desk.specs.Desk.{padded}
 
 -- THE PADDED BYTES
@@ -93,8 +92,3 @@ module _ (s : List ℕ) (S : Choice) (a : Accepted s) (rest : List ℕ) where
 pub section-read : (s : List ℕ) (S : Choice) → Accepted s → sectionRead (plateOf s S) ≡ length (insideBelow S (pointCount s)) ∷ insideBelow S (pointCount s)
 unfolding insideSection
 section-read s S a = ap sectionRead (sym (append-nil (plateOf s S))) ∙ section-start s S a []
-
--- a plate with the best count has the length that making says
-pub plate-best-length : (s : List ℕ) (S : Choice) → Accepted s → count (pointsOf s) S ≡ bestCount (pointsOf s) → length (plateOf s S) ≡ bestLength s
-unfolding bestLength
-plate-best-length s S a e = plate-length s S a ∙ (let o = inside-outside s S in omega arith)

@@ -1,13 +1,13 @@
 // The marking desk.
 use clash::ClashKind;
 use loading::blank_plate;
-use loading::inside_count;
 use loading::no_sheet;
 use loading::refused_load;
 use loading::with_sheet;
 use marking::answer_to;
 use marking::first_no;
 use plate_maker::MakeAnswer;
+use plate_reader::inside_count;
 ghost use mathlib.Core.Path.{_≡_};
 ghost use Rattle.format.specs.MakingQuestions.{workspaceAfter};
 ghost use Rattle.desk.specs.Desk.{fresh, loadOf, loadOutcome, markOf};
@@ -84,7 +84,7 @@ impl Desk {
         match plate_maker::make(sheet, &mut plate, workspace) {
             MakeAnswer::Refused(no) => refused_load(self, no),
             MakeAnswer::Made(_) => LoadResult {
-                desk: with_sheet(self, sheet, inside_count(&plate)),
+                desk: with_sheet(self, sheet, inside_count(&plate) as u16),
                 answer: LoadAnswer::Accepted,
             },
         }

@@ -5,7 +5,6 @@ use crate::LoadResult;
 ghost use mathlib.Core.Path.{_≡_};
 ghost use Prim.Native.Nat.{_≤_};
 ghost use lib.ListN.{length};
-ghost use Rattle.plate_reader.specs.PlateQuestions.{insideCount};
 ghost use Rattle.desk.specs.Desk.{noSheet, padded, refusedLoad, withSheet};
 ghost use Rattle.desk.specs.Blank.{blankPlate};
 
@@ -35,13 +34,6 @@ pub(crate) fn blank_plate() -> [u8; 268]
     ensures { λ r. ⌜ r ≡ blankPlate ⌝ }
 {
     [0u8; 268]
-}
-
-// The count of a plate's inside list.
-pub(crate) fn inside_count(plate: &[u8]) -> u16
-    ensures { λ r. ⌜ r ≡ insideCount (now (plate .entry)) ⌝ }
-{
-    format::byte_at(plate, 10 + 6 * format::point_count(plate) as usize) as u16
 }
 
 // The desk with another sheet and its best count, and the same last number.

@@ -3,10 +3,11 @@ use mathlib.Core.Path.{_≡_, refl, _∙_}
 use mathlib.Core.Bool.{true, false, not}
 use mathlib.Core.List.{List}
 use Prim.Native.Nat.{ℕ, zero, suc, _+_, _<_}
-use lib.Dec.{eqb}
+use lib.Dec.{eqb, ltb}
 use borrow.Author.Tests.{eq-eqb, ne-eqb}
 use native.Mathlib.Omega.{arith}
 use native.Mathlib.Numerals.{add-one}
+use Rattle.labeling.specs.Points.{Points, nextMargin}
 use Rattle.labeling.specs.Conflicts.{every}
 use Rattle.labeling.specs.Tests.{not-both, decide, same, every-is}
 use Rattle.format.specs.Answers.{outcomeOf}
@@ -46,3 +47,14 @@ none-outcome k e = rw e
 
 pub no-outcome : (r k : ℕ) → r ≡ k → (r ≡ 0 → ⊥) → record { refused = true; number = r } ≡ outcomeOf k
 no-outcome r k e ne = rw (← e, ne-eqb r 0 ne)
+
+-- THE MARGIN RULE
+
+module _ (P : Points) (j k i : ℕ) where
+  pub margin-near : ltb (P .row j) (P .row i + P .h) ≡ true → k + 1 ≡ nextMargin P j k i
+  unfolding nextMargin
+  margin-near e = rw e
+
+  pub margin-far : ltb (P .row j) (P .row i + P .h) ≡ false → 0 ≡ nextMargin P j k i
+  unfolding nextMargin
+  margin-far e = rw e

@@ -4,12 +4,12 @@ use mathlib.Core.Path.{_≡_}
 use mathlib.Core.Bool.{true, false, cond}
 use mathlib.Core.List.{List, [], _∷_, _++_}
 use Prim.Native.Nat.{ℕ, zero, suc, _+_, _≤_, _<_}
-use lib.Dec.{ltb, eqb}
+use lib.Dec.{eqb}
 use lib.ListN.{length, getD}
 use native.Mathlib.Omega.{arith}
 use Rattle.labeling.specs.Points.{Points, Choice, before, insert, outsideBelow, outside, nextMargin, placedFrom, placed, marginIn, marginColumn}
 use Rattle.labeling.specs.Tests.{decide}
-use Rattle.labeling.specs.Margin.{among, among-none, outside-lists}
+use Rattle.labeling.specs.Margin.{among, among-none, outside-lists, next-most}
 use Rattle.labeling.specs.Order.{outside-length}
 use Rattle.format.specs.Sheet.{pointCount, pointsOf}
 use Rattle.format.specs.Plate.{insideBelow, insideSection, pairs, outsideSection, plateOf}
@@ -17,10 +17,6 @@ use Rattle.format.specs.PlateLength.{inside-length}
 use Rattle.format.specs.Accepted.{Accepted}
 
 -- MARGIN COLUMNS
-
-next-most : (P : Points) (j k i : ℕ) → nextMargin P j k i ≤ k + 1
-unfolding nextMargin
-next-most P j k i = decide (ltb (P .row j) (P .row i + P .h)) (λ e. rw e (omega arith)) (λ e. rw e (omega arith))
 
 from-most : (P : Points) (j k i : ℕ) (l : List ℕ) → marginIn i (placedFrom P j k l) ≤ k + length l
 unfolding placedFrom marginIn

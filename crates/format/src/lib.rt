@@ -4,7 +4,8 @@ ghost use Prim.Native.Nat.{_+_, _*_, _<_};
 ghost use mathlib.Core.Bool.{_&&_};
 ghost use lib.Dec.{ltb};
 ghost use lib.ListN.{getD};
-ghost use Rattle.format.specs.Sheet.{twoBytes, mapWidth, mapHeight, labelWidth, labelHeight, pointCount, callNumber, column as columnOf, row as rowOf, upTo, unlikeEarlier, pointNo, pointsNo, questionsNo, sheetNo};
+ghost use Rattle.format.specs.Sheet.{twoBytes, mapWidth, mapHeight, labelWidth, labelHeight, pointCount, callNumber, column as columnOf, row as rowOf, upTo, unlikeEarlier, pointNo, pointsNo, questionsNo, sheetNo, pointsOf};
+ghost use Rattle.labeling.specs.Points.{nextMargin};
 ghost use Rattle.format.specs.Answers.{sheetOutcome, outcomeOf};
 use reader::SheetPoint;
 use reader::walked;
@@ -91,6 +92,27 @@ pub fn row(sheet: &[u8], position: u8) -> u16
     ensures { λ r. ⌜ r ≡ rowOf (now (sheet .entry)) position ⌝ }
 {
     two_bytes(sheet, 14 + 6 * position as usize)
+}
+
+// `a` is less than `length` above `b`, or below it.
+pub fn within(a: u16, b: u16, length: u16) -> bool
+    ensures { λ r. ⌜ r ≡ ltb a (b + length) ⌝ }
+{
+    (a as u32) < b as u32 + length as u32
+}
+
+// The margin column of the outside position that comes next after the position `previous` in the margin column `margin`.
+pub fn next_margin(sheet: &[u8], previous: u8, margin: u8, position: u8) -> u16
+    ensures { λ r. ⌜ r ≡ nextMargin (pointsOf (now (sheet .entry))) previous margin position ⌝ }
+{
+    if within(
+        row(sheet, previous),
+        row(sheet, position),
+        label_height(sheet),
+    ) {
+        return margin as u16 + 1;
+    }
+    0
 }
 
 // A number is 1 to most.

@@ -7,9 +7,9 @@ use Prim.Native.Nat.{ℕ, zero, suc, _+_, _≤_, _<_}
 use lib.Dec.{ltb, leb, eqb}
 use borrow.Author.Tests.{lt-ltb, le-ltb, eq-eqb, ne-eqb}
 use native.Mathlib.Omega.{arith}
-use Rattle.labeling.specs.Tests.{decide, same, Decides, dec-lt, dec-le, dec-and, dec-not}
+use Rattle.labeling.specs.Tests.{decide, same, Decides, dec-lt, dec-le, dec-and, dec-not, dec-true}
 use Rattle.labeling.specs.Recurrence.{Heights, Point, Sorted, Overlap, overlaps, reachesOver, greatest, reachesAbove, reach, good}
-use Rattle.labeling.specs.RecurrenceTests.{less, dec-map, dec-unique, dec-true, dec-if-le, dec-if-pos, greatest-le, greatest-is, greatest-most, Between, Good, dec-good, dec-overlaps, Reaches, dec-reaches, Reached, newer, older, nobody, reach-is, dec-above}
+use Rattle.labeling.specs.RecurrenceTests.{less, dec-map, dec-unique, dec-if-le, dec-if-pos, greatest-le, greatest-is, greatest-most, Between, Good, dec-good, dec-overlaps, Reaches, dec-reaches, Reached, newer, older, nobody, reach-is, dec-above}
 
 -- THE LEAST
 

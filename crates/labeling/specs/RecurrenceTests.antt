@@ -6,7 +6,7 @@ use Prim.Native.Nat.{ℕ, zero, suc, _+_, _≤_, _<_, max}
 use lib.Dec.{ltb, eqb}
 use borrow.Author.Tests.{ltb-true, ltb-false}
 use native.Mathlib.Omega.{arith}
-use Rattle.labeling.specs.Tests.{not-both, decide, same, Decides, dec-lt, dec-le, dec-eq, dec-and, dec-not, and-left, and-right, and-both, or-left, or-right}
+use Rattle.labeling.specs.Tests.{not-both, decide, same, Decides, dec-lt, dec-le, dec-eq, dec-and, dec-not, and-left, and-right, and-both, or-left, or-right, or-rest, dec-true}
 use Rattle.labeling.specs.Recurrence.{Heights, Point, Overlap, between, overlaps, reachesOver, greatest, everyPoint, reachesAbove, reach, bars, good, clear, plus, join, value, outValue, inValue, takesIn, recovered, openWeight}
 
 -- TESTS IN GENERAL
@@ -35,13 +35,9 @@ dec-unique {a} {b} d e = decide a (λ x. x ∙ sym (e .of (d .is x))) (λ x. x �
 -- A disjunction of tests decides that the second fact holds unless the first does.
 pub dec-unless : {a b : Bool} {A B : Type 0} → Decides a A → Decides b B → Decides (a || b) ((A → ⊥) → B)
 dec-unless {a} {b} d e = record {
-  is = λ x n. e .is (second a b x (dec-false d n));
+  is = λ x n. e .is (or-rest a b x (dec-false d n));
   of = λ f. decide a (λ x. or-left a b x) (λ x. or-right a b (e .of (f (λ y. not-both (d .of y) x))));
 }
-  where
-    second : (a b : Bool) → (a || b) ≡ true → a ≡ false → b ≡ true
-    second true b x y = absurd (not-both refl y)
-    second false b x y = x
 
 -- Recurrence.antt has two forms of it: the second fact holds if b ≤ n;
 pub dec-if-le : (n b : ℕ) {c : Bool} {C : Type 0} → Decides c C → Decides (ltb n b || c) (b ≤ n → C)
@@ -54,10 +50,6 @@ pub dec-if-pos : (q : ℕ) {c : Bool} {C : Type 0} → Decides c C → Decides (
 dec-if-pos q e =
     let g = dec-unless (dec-eq q 0) e in
     record { is = λ x l. g .is x (λ z. omega arith); of = λ f. g .of (λ z. let l : 1 ≤ q = omega arith in f l) }
-
--- A Bool decides that it is true.
-pub dec-true : (b : Bool) → Decides b (b ≡ true)
-dec-true b = record { is = λ e. e; of = λ e. e }
 
 -- Every point passes exactly if the fact holds of every point.
 pub dec-every : (f : ℕ → Bool) (F : ℕ → Type 0) (m : ℕ) → ((i : ℕ) → Decides (f i) (F i)) → Decides (everyPoint f m) ((i : ℕ) → 1 ≤ i → i ≤ m → F i)

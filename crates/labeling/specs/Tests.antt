@@ -5,7 +5,7 @@ use mathlib.Core.Bool.{Bool, true, false, cond, not, _&&_, _||_, true≢false}
 use mathlib.Core.Logic.{_⊎_, inl, inr}
 use Prim.Native.Nat.{ℕ, zero, suc, _≤_, _<_}
 use lib.Dec.{ltb, leb, eqb}
-use borrow.Author.Tests.{ltb-true, leb-true, eqb-true, eqb-false, lt-ltb, le-leb, eq-eqb, ne-eqb}
+use borrow.Author.Tests.{ltb-true, leb-true, eqb-true, eqb-false, lt-ltb, le-leb, eq-eqb, ne-eqb, not-true}
 use native.Mathlib.Omega.{arith}
 use Rattle.labeling.specs.Points.{Points, Choice, Pixel, atColumn, inMargin}
 use Rattle.labeling.specs.Marks.{Label, Leader, Outer, Marks, labelB, leaderB, outerB, marksB}
@@ -38,6 +38,10 @@ dec-le a b = record { is = leb-true a b; of = le-leb a b }
 pub dec-eq : (a b : ℕ) → Decides (eqb a b) (a ≡ b)
 dec-eq a b = record { is = eqb-true a b; of = eq-eqb a b }
 
+-- A Bool decides that it is true.
+pub dec-true : (b : Bool) → Decides b (b ≡ true)
+dec-true b = record { is = λ e. e; of = λ e. e }
+
 pub dec-none : Decides false ⊥
 dec-none = record { is = λ e. not-both e refl; of = λ x. absurd x }
 
@@ -60,6 +64,10 @@ or-left false b e = absurd (not-both e refl)
 pub or-right : (a b : Bool) → b ≡ true → (a || b) ≡ true
 or-right true b e = refl
 or-right false b e = e
+
+pub or-rest : (a b : Bool) → (a || b) ≡ true → a ≡ false → b ≡ true
+or-rest true b e f = absurd (not-both refl f)
+or-rest false b e f = e
 
 pub or-false : (b : Bool) → (b || false) ≡ b
 or-false true = refl
@@ -93,12 +101,8 @@ dec-or {a} {b} {A} {B} d e = record { is = λ x. there (or-is a b x); of = back 
     back (inr x) = or-right a b (e .of x)
 
 pub dec-not : {a : Bool} {A : Type 0} → Decides a A → Decides (not a) (A → ⊥)
-dec-not {a} {A} d = record { is = λ e x. not-both (d .of x) (not-is a e); of = λ f. not-of a (λ e. f (d .is e)) }
+dec-not {a} {A} d = record { is = λ e x. not-both (d .of x) (not-true a e); of = λ f. not-of a (λ e. f (d .is e)) }
   where
-    not-is : (a : Bool) → not a ≡ true → a ≡ false
-    not-is true e = sym e
-    not-is false e = refl
-
     not-of : (a : Bool) → (a ≡ true → ⊥) → not a ≡ true
     not-of true f = absurd (f refl)
     not-of false f = refl

@@ -10,7 +10,7 @@ use Rattle.labeling.specs.Best.{oneEach}
 use Rattle.format.specs.Sheet.{pointsOf}
 use Rattle.orders.specs.Arrays.{heightsOf, positionAt}
 use Rattle.optimum.specs.Packed.{Packed}
-use Rattle.orders.specs.Ordered.{Ordered}
+use Rattle.orders.specs.BothOrders.{BothOrders}
 use Rattle.optimum.specs.SameHeights.{total-same, arranged-same, allowed-same}
 use Rattle.optimum.specs.Limits.{InOrder, Limited, kept-same, kept-position, kept-order}
 
@@ -20,10 +20,10 @@ pub record Prepared (sheet s : List ℕ) : Type 0 where
   pub arranged : Arranged (pointsOf sheet) oneEach (heightsOf s) (positionAt s)
   pub allowed : AllAllowed (heightsOf s)
 
-pub in-order : {sheet s : List ℕ} → Ordered sheet s → InOrder s
-in-order o = record { long = o .long; few = o .few; sorted = o .sorted }
+pub in-order : {sheet s : List ℕ} → BothOrders sheet s → InOrder s
+in-order o = record { long = o .cells .long; few = o .few; sorted = o .sorted }
 
-pub prepared : {sheet s r : List ℕ} → Ordered sheet s → Limited s r → Prepared sheet r
+pub prepared : {sheet s r : List ℕ} → BothOrders sheet s → Limited s r → Prepared sheet r
 prepared {sheet} {s} {r} o m =
     let H = kept-same (m .kept) (o .few) in
     let q = kept-order (m .kept) (in-order o) in
@@ -38,8 +38,8 @@ prepared {sheet} {s} {r} o m =
         upper-rank =
             ap (λ x. heightsOf r .rank (suc x)) (H .n)
             ∙ (H .rank (suc (heightsOf s .n)) (omega (arith, o .few)) ∙ (o .upper-rank ∙ sym (H .n)));
-        tri-is = λ k l. m .kept .cell (238 + k) (λ a b. omega arith) ∙ o .tri-is k l;
-        tet-is = λ k l. m .kept .cell (274 + k) (λ a b. omega arith) ∙ o .tet-is k l;
+        tri-is = λ k l. m .kept .cell (238 + k) (λ a b. omega arith) ∙ o .cells .tri-is k l;
+        tet-is = λ k l. m .kept .cell (274 + k) (λ a b. omega arith) ∙ o .cells .tet-is k l;
         light =
             omega (arith, o .light, ap (total (heightsOf r) all) (H .n), total-same H (heightsOf s .n) (omega arith));
       };

@@ -1,7 +1,7 @@
 -- The marks that the recovery sets are the recovered choice's.
 -- Assumes nothing.
 use mathlib.Core.Path.{_≡_, refl, sym, _∙_, ap}
-use mathlib.Core.Bool.{Bool, true, false, cond, _||_}
+use mathlib.Core.Bool.{Bool, true, false, cond}
 use mathlib.Core.List.{List}
 use Prim.Native.Nat.{ℕ, zero, suc, _+_, _-_, _≤_, _<_}
 use native.Mathlib.Omega.{arith}
@@ -9,7 +9,7 @@ use lib.Dec.{ltb, eqb}
 use lib.ListN.{getD, length, set, length-set}
 use lib.Seq.{getD-set-same, getD-set-other}
 use borrow.Author.Tests.{ltb-true, ltb-false, eqb-true, eqb-false}
-use Rattle.labeling.specs.Tests.{not-both, decide, and-right}
+use Rattle.labeling.specs.Tests.{not-both, decide, and-right, or-rest}
 use Rattle.labeling.specs.Recurrence.{Heights, between, reach, value, join, outValue, takesIn, recovered}
 use Rattle.labeling.specs.RecurrenceTests.{Between, dec-between, false-of, recovered-skip, recovered-in, recovered-out}
 use Rattle.orders.specs.Arrays.{heightsOf}
@@ -25,10 +25,6 @@ use Rattle.optimum.specs.Steps.{opened, at-rank, limit-low, limit-high, 
 cond-same : (z : Bool) (x : ℕ) → cond z x x ≡ x
 cond-same true x = refl
 cond-same false x = refl
-
-or-rest : (a b : Bool) → (a || b) ≡ true → a ≡ false → b ≡ true
-or-rest true b e f = absurd (not-both refl f)
-or-rest false b e f = e
 
 -- A recovered choice's points are between the ends.
 recovered-range : (H : Heights) (t a b q i : ℕ) → recovered H t a b q i ≡ true → Between a i b

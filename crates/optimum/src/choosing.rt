@@ -3,7 +3,7 @@ ghost use mathlib.Core.Path.{_≡_};
 ghost use Prim.Native.Nat.{_≤_};
 ghost use lib.ListN.{length, replicate};
 ghost use Rattle.format.specs.Sheet.{sheetNo};
-ghost use Rattle.orders.specs.Ordered.{Ordered};
+ghost use Rattle.orders.specs.BothOrders.{BothOrders};
 ghost use Rattle.optimum.specs.Table.{Room};
 ghost use Rattle.optimum.specs.Split.{Numbered};
 ghost use Rattle.optimum.specs.Choosing.{BestSplit, nothingChosen};
@@ -68,7 +68,7 @@ fn two_lists(n: u8, heights: &PointArray, marks: &[u8; 32]) -> BestChoice
 
 // A best choice of an accepted sheet, whose points are in order, and a workspace of zeros.
 pub(crate) fn chosen(sheet: &[u8], points: PointArray, workspace: &mut [u16]) -> BestChoice
-    requires { ⌜ (sheetNo (now sheet) ≡ 0) × Ordered (now sheet) points × Room (now workspace) ⌝ }
+    requires { ⌜ (sheetNo (now sheet) ≡ 0) × BothOrders (now sheet) points × Room (now workspace) ⌝ }
     ensures { λ r. ⌜ (r .number ≡ 0) × BestSplit (now (sheet .entry)) r × (now (workspace .exit) ≡ replicate (length (now (workspace .entry))) 0) ⌝ }
 {
     let mut heights = points;

@@ -8,4 +8,5 @@ pub mod Numbers
 pub mod HeightOrder
 pub mod Fits
 pub mod RightOrder
-pub mod Ordered
+pub mod OrderedCells
+pub mod BothOrders

@@ -1,7 +1,7 @@
 // The points of a sheet in both orders, in the array that a best choice is made from.
 ghost use mathlib.Core.Path.{_≡_};
 ghost use Rattle.format.specs.Sheet.{sheetNo};
-ghost use Rattle.orders.specs.Ordered.{Ordered};
+ghost use Rattle.orders.specs.BothOrders.{BothOrders};
 ghost use Rattle.orders.specs.Ordering.{Ordering};
 use height_order::write_points;
 use numbers::blank;
@@ -27,7 +27,7 @@ pub struct OrderedPoints {
 // The array of an accepted sheet.
 fn both_orders(sheet: &[u8]) -> PointArray
     requires { ⌜ sheetNo (now sheet) ≡ 0 ⌝ }
-    ensures { λ r. ⌜ Ordered (now (sheet .entry)) r ⌝ }
+    ensures { λ r. ⌜ BothOrders (now (sheet .entry)) r ⌝ }
 {
     let mut heights = blank();
     write_numbers(sheet, &mut heights);

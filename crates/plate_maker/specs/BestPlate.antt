@@ -1,28 +1,20 @@
--- The plate of a best choice has the length of a best plate, and is written into a best output. Assumes nothing.
+-- The plate of a best choice's two lists is a best plate. Assumes nothing.
 use mathlib.Core.Path.{_≡_, refl, sym, ap, _∙_}
 use mathlib.Core.List.{List, _++_}
-use Prim.Native.Nat.{ℕ, _+_, _-_, _*_, _≤_}
+use Prim.Native.Nat.{ℕ, _+_, _-_, _≤_}
 use lib.ListN.{length, take, drop, replicate, length-append}
 use lib.Seq.{take-at}
 use native.Mathlib.Omega.{arith}
 use Rattle.labeling.specs.Points.{Choice, outside}
-use Rattle.labeling.specs.Best.{weight, count, bestCount}
+use Rattle.labeling.specs.Best.{weight, count}
 use Rattle.format.specs.Sheet.{pointCount, pointsOf}
 use Rattle.format.specs.Plate.{insideBelow, insideSection, outsideSection, plateOf}
 use Rattle.format.specs.Accepted.{Accepted}
-use Rattle.format.specs.PlateLength.{plate-length, inside-length, inside-outside}
+use Rattle.format.specs.PlateLength.{inside-length, inside-outside, bestLength, best-length}
 use Rattle.optimum.specs.Choosing.{padded, BestSplit}
 use Rattle.optimum.specs.declared.BestChoice.{BestChoice}
-use Rattle.plate_maker.specs.Making.{bestLength, BestOutput}
+use Rattle.plate_maker.specs.Making.{BestOutput}
 use Rattle.plate_maker.specs.Writing.{sectionOf, plateOfLists}
-
--- the plate of a choice of the best count has the length of a best plate
-pub best-length : (s : List ℕ) (S : Choice) → Accepted s → count (pointsOf s) S ≡ bestCount (pointsOf s) → length (plateOf s S) ≡ bestLength s
-unfolding bestLength
-best-length s S a e =
-    let o : length (outside (pointsOf s) S) + count (pointsOf s) S ≡ pointCount s = inside-outside s S in
-    let l : length (plateOf s S) ≡ 12 + 6 * pointCount s + count (pointsOf s) S + 2 * length (outside (pointsOf s) S) = plate-length s S a in
-    omega arith
 
 -- the first cells of a padded list are the list
 pub padded-take : (l : List ℕ) → take (length l) (padded l) ≡ l

@@ -14,8 +14,8 @@ use Rattle.format.specs.Accepted.{Accepted, none-sheet}
 use Rattle.plate_reader.specs.PlateQuestions.{plateNo, handedBack}
 use Rattle.plate_reader.specs.DemandTwoReader.{PlateOfChoice, ReadRight, demand-two-reader}
 use Rattle.format.specs.MakingQuestions.{makingNo, none-making}
-use Rattle.plate_maker.specs.Making.{bestLength, makeOutcomeOf, BestOutput, Making}
-use Rattle.plate_maker.specs.BestPlate.{best-length}
+use Rattle.format.specs.PlateLength.{bestLength, best-length}
+use Rattle.plate_maker.specs.Making.{makeOutcomeOf, BestOutput, Making}
 use Rattle.plate_maker.specs.declared.MakeAnswer.the-variants.{Made}
 
 -- A plate p made from the sheet s: it is the plate of s and a valid choice, it is accepted, and the inside list that the reader hands

@@ -3,21 +3,18 @@
 use mathlib.Core.Path.{_≡_}
 use mathlib.Core.Bool.{Bool, true, false, cond, not}
 use mathlib.Core.List.{List, _++_}
-use Prim.Native.Nat.{ℕ, _+_, _-_, _*_}
+use Prim.Native.Nat.{ℕ}
 use lib.Dec.{eqb}
 use lib.ListN.{length, drop}
 use Rattle.labeling.specs.Points.{Choice}
 use Rattle.labeling.specs.Marks.{Valid}
 use Rattle.labeling.specs.Best.{count, bestCount}
-use Rattle.format.specs.Sheet.{pointCount, pointsOf}
+use Rattle.format.specs.Sheet.{pointsOf}
 use Rattle.format.specs.MakingQuestions.{makingNo, workspaceAfter}
 use Rattle.format.specs.Plate.{plateOf}
+use Rattle.format.specs.PlateLength.{bestLength}
 use Rattle.plate_maker.specs.declared.MakeAnswer.{MakeAnswer}
 use Rattle.plate_maker.specs.declared.MakeAnswer.the-variants.{Made, Refused}
-
--- "With i inside and o outside it has 12 + 6n + i + 2o bytes": the length of a best plate, i being the best count.
-unfoldable pub bestLength : List ℕ → ℕ
-bestLength s = let i = bestCount (pointsOf s) in 12 + 6 * pointCount s + i + 2 * (pointCount s - i)
 
 -- What an answer of making says: whether it is refused, the number of the first no (0 where nothing is refused), and the written length.
 pub record MakeOutcome : Type 0 where

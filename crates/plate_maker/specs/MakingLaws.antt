@@ -5,7 +5,8 @@ use Prim.Native.Nat.{ℕ}
 use lib.ListN.{length}
 use borrow.Author.Tests.{ne-eqb}
 use Rattle.format.specs.MakingQuestions.{makingNo, workspaceAfter}
-use Rattle.plate_maker.specs.Making.{bestLength, BestOutput, Making}
+use Rattle.format.specs.PlateLength.{bestLength}
+use Rattle.plate_maker.specs.Making.{BestOutput, Making}
 use Rattle.plate_maker.specs.declared.MakeAnswer.the-variants.{Made, Refused}
 
 -- refused: everything is as it was

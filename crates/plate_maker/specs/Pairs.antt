@@ -4,11 +4,12 @@ use mathlib.Core.List.{List, [], _∷_, _++_, append-assoc, append-nil}
 use Prim.Native.Nat.{ℕ, _+_, _*_, _≤_, _<_}
 use native.Mathlib.Nat.{zero-add}
 use native.Mathlib.Omega.{arith}
-use lib.Dec.{eqb, ltb}
+use lib.Dec.{eqb}
 use borrow.Author.Tests.{ne-eqb}
 use lib.ListN.{length, set, drop, length-append}
-use Rattle.labeling.specs.Points.{Points, nextMargin, placedFrom, placed}
+use Rattle.labeling.specs.Points.{Points, placedFrom, placed}
 use Rattle.labeling.specs.Tests.{decide}
+use Rattle.labeling.specs.Margin.{next-most}
 use Rattle.format.specs.Sheet.{pointsOf}
 use Rattle.format.specs.Plate.{pairs}
 use Rattle.format.specs.PlateLength.{placed-length, pairs-length}
@@ -29,10 +30,8 @@ placed-next P count j k i (x ∷ l) = rw (ne-eqb (count + 1) 0 (λ e. omega arit
 
 -- a margin column is at most the number of outside points before it
 pub margin-small : (P : Points) (count j k i : ℕ) → k ≤ count → marginAfter P count j k i ≤ count + 1
-unfolding marginAfter nextMargin
-margin-small P count j k i h =
-    decide (eqb count 0) (λ e. rw e (omega arith)) (λ e. rw e
-    (decide (ltb (P .row j) (P .row i + P .h)) (λ f. rw f (omega arith)) (λ f. rw f (omega arith))))
+unfolding marginAfter
+margin-small P count j k i h = decide (eqb count 0) (λ e. rw e (omega arith)) (λ e. rw e (omega (arith, next-most P j k i)))
 
 -- PAIR BY PAIR
 

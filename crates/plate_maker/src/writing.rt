@@ -3,35 +3,15 @@ ghost use mathlib.Core.Path.{_≡_};
 ghost use Prim.Native.Nat.{_+_, _*_, _<_, _≤_};
 ghost use mathlib.Core.List.{_∷_, _++_};
 ghost use lib.ListN.{length, drop};
-ghost use Rattle.labeling.specs.Points.{nextMargin, placed};
+ghost use Rattle.labeling.specs.Points.{placed};
 ghost use Rattle.format.specs.Sheet.{sheetNo, pointCount, pointsOf};
 ghost use Rattle.format.specs.Plate.{pairs};
 ghost use Rattle.optimum.specs.Choosing.{BestSplit};
 ghost use Rattle.optimum.specs.Written.{written};
-ghost use Rattle.plate_maker.specs.Making.{bestLength, BestOutput};
+ghost use Rattle.format.specs.PlateLength.{bestLength};
+ghost use Rattle.plate_maker.specs.Making.{BestOutput};
 ghost use Rattle.plate_maker.specs.Writing.{sectionOf, marginAfter, plateOfLists};
 use optimum::BestChoice;
-
-// A number of 16 bits as a wider one.
-fn wide(x: u16) -> usize
-    ensures { λ r. ⌜ (r ≡ x) × (r < 65536) ⌝ }
-{
-    x as usize
-}
-
-// The margin column of the outside position that comes next after the position `previous` in the margin column `margin`.
-fn next_margin(sheet: &[u8], previous: u8, margin: u8, position: u8) -> u8
-    requires { ⌜ margin < 255 ⌝ }
-    ensures { λ r. ⌜ r ≡ nextMargin (pointsOf (now (sheet .entry))) previous margin position ⌝ }
-{
-    let previous_row = wide(format::row(sheet, previous));
-    let row = wide(format::row(sheet, position));
-    let height = wide(format::label_height(sheet));
-    if previous_row < row + height {
-        return margin + 1;
-    }
-    0
-}
 
 // The margin column of the outside position that comes next after `count` others, the last of them `previous` in the margin column
 // `margin`: 0 for the first.
@@ -42,7 +22,7 @@ fn margin_after(sheet: &[u8], count: usize, previous: u8, margin: u8, position: 
     if count == 0 {
         return 0;
     }
-    next_margin(sheet, previous, margin, position)
+    format::next_margin(sheet, previous, margin, position) as u8
 }
 
 // Copies bytes into the output, from the place `at` on.

@@ -81,15 +81,6 @@ module _ (P : Points) (i j : ℕ) where
   unfolding before
   before-higher l ne = rw (le-ltb (P .row j) (P .row i) l, ne-eqb (P .row j) (P .row i) ne)
 
-module _ (P : Points) (j k i : ℕ) where
-  pub margin-near : ltb (P .row j) (P .row i + P .h) ≡ true → k + 1 ≡ nextMargin P j k i
-  unfolding nextMargin
-  margin-near e = rw e
-
-  pub margin-far : ltb (P .row j) (P .row i + P .h) ≡ false → 0 ≡ nextMargin P j k i
-  unfolding nextMargin
-  margin-far e = rw e
-
 module _ (P : Points) (S : Choice) (j k i m : ℕ) where
   pub follows-point : outsidePoint P S i ≡ false → false ≡ pairFollows P S j k i m
   follows-point e = rw e

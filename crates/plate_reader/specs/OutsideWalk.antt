@@ -1,5 +1,6 @@
 -- Question 43 without a list of the outside points: the bytes are walked pair by pair, each held against the one before it. Where there
 -- are as many pairs as outside points, the walk says just what 43 asks. Assumes nothing.
+use borrow.Author.Tests.{not-true}
 use mathlib.Core.Path.{_≡_, refl, sym, ap, _∙_}
 use mathlib.Core.Bool.{Bool, true, false, not, _&&_}
 use mathlib.Core.List.{List, [], _∷_}
@@ -83,11 +84,7 @@ abbrev Outsiders : Points → Choice → List ℕ → Type 0
 Outsiders P S l = (x : ℕ) → among x l ≡ true → (x < P .n) × (S x ≡ false)
 
 dec-outside-point : (P : Points) (S : Choice) (i : ℕ) → Decides (outsidePoint P S i) ((i < P .n) × (S i ≡ false))
-dec-outside-point P S i = dec-and (dec-lt i (P .n)) (record { is = not-is (S i); of = λ e. rw e refl })
-  where
-    not-is : (b : Bool) → not b ≡ true → b ≡ false
-    not-is true e = sym e
-    not-is false e = refl
+dec-outside-point P S i = dec-and (dec-lt i (P .n)) (record { is = not-true (S i); of = λ e. rw e refl })
 
 -- The bytes b are the pairs of outside points in order, with the margin columns, that come after position j in margin column k.
 record After (P : Points) (S : Choice) (j k : ℕ) (b : List ℕ) : Type 0 where

@@ -1,7 +1,7 @@
 -- What the questions of a plate ask, as facts; a plate's bytes from its sections, and its sections from the bytes that plateOf gives.
 -- Assumes nothing.
 use mathlib.Core.Path.{_≡_, refl, sym, ap, ap₂, _∙_}
-use mathlib.Core.Bool.{Bool, true, cond, not}
+use mathlib.Core.Bool.{true, cond, not}
 use mathlib.Core.List.{List, [], _∷_, _++_, append-assoc}
 use Prim.Native.Nat.{ℕ, suc, _+_, _*_, _≤_, _<_}
 use lib.Dec.{eqb}
@@ -10,7 +10,7 @@ use lib.Seq.{length-take-le, getD-take, drop-cons, drop-drop, take-at, drop-at, 
 use borrow.Author.Tests.{eqb-true, eqb-false, eq-eqb}
 use native.Mathlib.Omega.{arith}
 use Rattle.labeling.specs.Points.{outside}
-use Rattle.labeling.specs.Tests.{not-both, decide, Decides, dec-eq, dec-and}
+use Rattle.labeling.specs.Tests.{not-both, decide, Decides, dec-eq, dec-and, dec-true}
 use Rattle.labeling.specs.Best.{count, weight, weightBelow, oneEach}
 use Rattle.format.specs.Sheet.{twoBytes, pointCount, pointsOf}
 use Rattle.format.specs.Accepted.{Proper, Accepted, NoneOf, none-ask, none-left, none-plate-sheet}
@@ -39,10 +39,6 @@ dec-fit p =
 dec-none : (c : Clash) → Decides (not (isClash c)) (c ≡ None)
 dec-none None = record { is = λ e. refl; of = λ e. refl }
 dec-none (Between i j k) = record { is = λ e. absurd (not-both refl (sym e)); of = λ e. absurd (not-both refl (ap isClash e)) }
-
--- A Bool question.
-dec-true : (b : Bool) → Decides b (b ≡ true)
-dec-true b = record { is = λ e. e; of = λ e. e }
 
 -- What the questions ask of a plate.
 pub record Asked (p : List ℕ) : Type 0 where

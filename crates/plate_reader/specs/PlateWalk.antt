@@ -1,9 +1,9 @@
 -- On a plate whose sheet, sections and inside list are right, the walk answers question 43. Assumes nothing.
+use Rattle.labeling.specs.Points.{distinct-rows}
 use mathlib.Core.Path.{_≡_, sym, ap, _∙_}
 use mathlib.Core.Bool.{true}
 use mathlib.Core.List.{List}
 use Prim.Native.Nat.{ℕ, _*_}
-use Rattle.labeling.specs.Points.{Points, Distinct, DistinctRows}
 use Rattle.format.specs.Sheet.{pointCount, pointsOf, plateSheetNo}
 use Rattle.format.specs.Accepted.{none-plate-sheet}
 use Rattle.format.specs.Plate.{choiceOf}
@@ -11,14 +11,10 @@ use Rattle.plate_reader.specs.PlateQuestions.{sheetOf, insideList, outsi
 use Rattle.plate_reader.specs.OutsideWalk.{pairsFollow, walk-right}
 use Rattle.plate_reader.specs.PlateSections.{dec-fit, start-accepted, outside-bytes, outside-counted}
 
--- points of different rows are different
-rows-distinct : (P : Points) → DistinctRows P → Distinct P
-rows-distinct P d = record { apart = λ i j l m e c. d .apart i j l m e }
-
 pub walk-answers : (p : List ℕ) → plateSheetNo p ≡ 0 → sectionsFit p ≡ true → ascending (pointCount p) (insideList p) ≡ true → pairsFollow (pointsOf (sheetOf p)) (choiceOf (insideList p)) (outsidePairs p) ≡ pairsRight (pointsOf (sheetOf p)) (choiceOf (insideList p)) (outsidePairs p)
 walk-answers p sheet fit up =
     let q = none-plate-sheet p .is sheet in
     let f = dec-fit p .is fit in
     let a = start-accepted p (q .1) (q .0) in
-    walk-right (pointsOf (sheetOf p)) (choiceOf (insideList p)) (outsidePairs p) (rows-distinct (pointsOf (sheetOf p)) (a .proper .rows))
+    walk-right (pointsOf (sheetOf p)) (choiceOf (insideList p)) (outsidePairs p) (distinct-rows (pointsOf (sheetOf p)) (a .proper .rows))
     (outside-bytes p f ∙ ap (λ n. 2 * n) (sym (outside-counted p f (q .1) up)))

@@ -2,10 +2,9 @@
 use clash::choice_of;
 use clash::first_clash;
 use clash::is_clash;
-use clash::within;
 use format::byte_at;
 use format::column;
-use format::label_height;
+use format::next_margin;
 use format::point_count;
 use format::questions_no;
 use format::row;
@@ -14,7 +13,7 @@ ghost use mathlib.Core.Path.{_≡_};
 ghost use mathlib.Core.Bool.{true};
 ghost use Prim.Native.Nat.{_+_, _≤_, _<_};
 ghost use lib.ListN.{length, getD, drop};
-ghost use Rattle.labeling.specs.Points.{before, nextMargin};
+ghost use Rattle.labeling.specs.Points.{before};
 ghost use Rattle.format.specs.Sheet.{pointsOf, plateSheetNo};
 ghost use Rattle.clash.specs.ChoiceFlags.{held};
 ghost use Rattle.plate_reader.specs.PlateQuestions.{sheetLength, sheetOf, insideCount, insideStart, insideList, outsideStart, outsidePairs, sectionsFit, belowFirst, ascending, sectionsNo, plateNo, handedBack, handedBackAt};
@@ -27,7 +26,8 @@ pub enum PlateAnswer {
     Refused(u8),
 }
 
-fn inside_count(plate: &[u8]) -> u8
+// The count of a plate's inside list.
+pub fn inside_count(plate: &[u8]) -> u8
     ensures { λ r. ⌜ r ≡ insideCount (now (plate .entry)) ⌝ }
 {
     byte_at(plate, sheet_length(plate))
@@ -133,20 +133,6 @@ fn stands_before(sheet: &[u8], i: u8, j: u8) -> bool
         return column(sheet, i) < column(sheet, j);
     }
     false
-}
-
-// The margin column of the position that comes next after one in a margin column.
-fn next_margin(sheet: &[u8], previous: u8, margin: u8, position: u8) -> u16
-    ensures { λ r. ⌜ r ≡ nextMargin (pointsOf (now (sheet .entry))) previous margin position ⌝ }
-{
-    if within(
-        row(sheet, previous),
-        row(sheet, position),
-        label_height(sheet),
-    ) {
-        return margin as u16 + 1;
-    }
-    0
 }
 
 // A pair may follow another.

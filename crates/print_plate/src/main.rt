@@ -3,6 +3,7 @@
 use libc::STDIN_FILENO;
 use libc::STDOUT_FILENO;
 use plate_maker::MakeAnswer;
+use plate_reader::inside_count;
 ghost use Prim.Native.Nat.{_<_};
 
 // Where the outside pairs of a plate start, and how many there are.
@@ -19,10 +20,6 @@ fn print_number(number: u64) {
 
 fn end_line() {
     io::write_all(STDOUT_FILENO, b"\n");
-}
-
-fn inside_count(plate: &[u8]) -> u8 {
-    format::byte_at(plate, 10 + 6 * format::point_count(plate) as usize)
 }
 
 fn outside_of(plate: &[u8]) -> Outside

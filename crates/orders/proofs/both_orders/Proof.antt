@@ -1,7 +1,7 @@
 -- `orders::both_orders` meets its contract: the calls in turn. Assumes nothing.
 use Rattle.orders.specs.HeightOrder.{Fit}
 use Rattle.orders.specs.Fits.{accepted-fits}
-use Rattle.orders.specs.Ordered.{right-ready, ordered}
+use Rattle.orders.specs.BothOrders.{right-ready, both-orders}
 use borrow.Author.Needs.{needs}
 use Rattle.orders.proofs.both_orders.Statement.{statement}
 use Rattle.orders.proofs.both_orders.Tie as tie
@@ -31,7 +31,7 @@ write-right-order-requires c κs = rw (c .before .point-count .ensures) (right-r
 returns : tie.Need-returns
 returns c =
     let right = rw (c .before .before .point-count .ensures) at (c .write-right-order .ensures) in
-    ordered (fits (c .before .before .before .before .before .before .before .before .before)) (c .before .before .before .before .before .write-numbers .ensures) (c .before .before .before .write-points .ensures) right
+    both-orders (fits (c .before .before .before .before .before .before .before .before .before)) (c .before .before .before .before .before .write-numbers .ensures) (c .before .before .before .write-points .ensures) right
 
 pub both-orders-spec : {M : Type 1} → statement M
 both-orders-spec =

@@ -28,6 +28,9 @@ slice-aggregate-inside-count c = search needs
 inside-count-requires : tie.Need-inside-count-requires
 inside-count-requires c κs = search needs
 
+cast-with-sheet : tie.Need-cast-with-sheet
+cast-with-sheet c = search needs
+
 with-sheet-requires : tie.Need-with-sheet-requires
 with-sheet-requires c κs = made-short _ _ _ _ _ _ (c .before .before .before .before .before .before .before .before .before .before .blank-plate .ensures) (c .before .before .before .before .before .before .before .make .ensures) _ (c .before .before .enum-told .given .1)
 
@@ -55,6 +58,7 @@ load-spec =
     enum-told
     slice-aggregate-inside-count
     inside-count-requires
+    cast-with-sheet
     with-sheet-requires
     same-length
     returns

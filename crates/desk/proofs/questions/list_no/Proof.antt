@@ -6,13 +6,14 @@ use native.Mathlib.Omega.{arith}
 use Rattle.format.specs.Asking.{ask-no, ask-yes}
 use Rattle.desk.specs.Questions.{entriesNo, listNo}
 use Rattle.desk.specs.Lists.{dec-counted}
-use Rattle.desk.proofs.Laws.{decides-no, all-after}
+use Rattle.labeling.specs.RecurrenceTests.{dec-false}
+use Rattle.desk.proofs.Laws.{all-after}
 use Rattle.desk.proofs.questions.list_no.Statement.{statement}
 use Rattle.desk.proofs.questions.list_no.Tie as tie
 
 returns : tie.Need-returns
 unfolding listNo
-returns c = ask-no _ 31 _ (decides-no (dec-counted _) (λ y. omega arith))
+returns c = ask-no _ 31 _ (dec-false (dec-counted _) (λ y. omega arith))
 
 shared-slice-read-count : tie.Need-shared-slice-read-count
 shared-slice-read-count c = search needs
@@ -25,7 +26,7 @@ add-if2 c = omega (arith, c .shared-slice-known2 .given 0)
 
 returns-2 : tie.Need-returns-2
 unfolding listNo
-returns-2 c = ask-no _ 31 _ (decides-no (dec-counted _) (λ y. c .if2 .taken (y .1)))
+returns-2 c = ask-no _ 31 _ (dec-false (dec-counted _) (λ y. c .if2 .taken (y .1)))
 
 sub-entries-no : tie.Need-sub-entries-no
 sub-entries-no c = search needs

@@ -1,12 +1,12 @@
--- `plate_reader::next_margin` meets its contract. Assumes nothing.
+-- `format::next_margin` meets its contract. Assumes nothing.
 use borrow.Author.Needs.{needs}
 use mathlib.Core.Path.{_≡_, sym, _∙_}
 use Prim.Native.Nat.{_+_}
 use lib.Dec.{ltb}
 use Rattle.format.specs.Sheet.{labelHeight, row, pointsOf}
-use Rattle.plate_reader.proofs.Laws.{margin-near, margin-far}
-use Rattle.plate_reader.proofs.next_margin.Statement.{statement}
-use Rattle.plate_reader.proofs.next_margin.Tie as tie
+use Rattle.format.proofs.Laws.{margin-near, margin-far}
+use Rattle.format.proofs.next_margin.Statement.{statement}
+use Rattle.format.proofs.next_margin.Tie as tie
 
 row-requires : tie.Need-row-requires
 row-requires c κs = search needs
