@@ -9,6 +9,7 @@ use lib.Seq.{take-all}
 use borrow.Author.Tests.{eq-eqb, ne-eqb, eqb-true, le-leb}
 use native.Mathlib.Omega.{arith}
 use native.Mathlib.Numerals.{add-one}
+use Rattle.format.specs.Padded.{padded, drop-zeros}
 use Rattle.labeling.specs.Tests.{decide, same}
 use Rattle.labeling.specs.Best.{bestCount}
 use Rattle.format.specs.Sheet.{pointCount, pointsOf, sheetNo}
@@ -24,7 +25,7 @@ use Rattle.plate_maker.specs.Making.{makeOutcome, BestOutput, Making}
 use Rattle.plate_maker.specs.declared.MakeAnswer.{MakeAnswer}
 use Rattle.plate_maker.specs.declared.MakeAnswer.the-variants.{Made, Refused as RefusedMaking}
 use Rattle.desk.specs.Questions.{loadNo, listCount, aboveBefore, entryNo, entriesNo}
-use Rattle.desk.specs.Desk.{noSheet, padded, withSheet, refusedLoad, loadOf, loadOutcome, verdictBy, verdictOf}
+use Rattle.desk.specs.Desk.{noSheet, withSheet, refusedLoad, loadOf, loadOutcome, verdictBy, verdictOf}
 use Rattle.desk.specs.Blank.{blankPlate}
 use Rattle.desk.specs.DeskLaws.{load-yes, load-no, none-load}
 use Rattle.desk.specs.Loaded.{plate-count}
@@ -75,13 +76,8 @@ copy-suc (y ∷ d) (x ∷ s) (suc k) l m = ap (λ r. x ∷ r) (copy-suc d s k (o
 pub copy-more : (d s : List ℕ) (k : ℕ) → k < length d → k < length s → set (take k s ++ drop k d) k (getD s k 0) ≡ take (k + 1) s ++ drop (k + 1) d
 copy-more d s k l m = rw add-one (copy-suc d s k l m)
 
-drop-zeros : (n k : ℕ) → _≡_ {A = List ℕ} (drop k (replicate n 0)) (replicate (n - k) 0)
-drop-zeros n zero = ap (λ j. replicate j 0) (let q : n ≡ n - 0 = omega arith in q)
-drop-zeros zero (suc k) = ap (λ j. replicate j 0) (let q : 0 ≡ 0 - suc k = omega arith in q)
-drop-zeros (suc n) (suc k) = drop-zeros n k ∙ ap (λ j. replicate j 0) (let q : n - k ≡ suc n - suc k = omega arith in q)
-
 -- all of s is copied over the bytes of no sheet
-pub copied : (s : List ℕ) (k : ℕ) → length s ≡ k → take k s ++ drop k noSheet ≡ padded s
+pub copied : (s : List ℕ) (k : ℕ) → length s ≡ k → take k s ++ drop k noSheet ≡ padded 202 s
 unfolding padded noSheet
 copied s k e = ap₂ (λ a b. a ++ b) (take-all k s (omega arith)) (drop-zeros 202 k ∙ ap (λ j. replicate (202 - j) 0) (sym e))
 

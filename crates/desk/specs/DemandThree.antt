@@ -12,6 +12,7 @@ use lib.ListN.{length, take, drop, replicate, length-append}
 use lib.Seq.{take-at}
 use borrow.Author.Tests.{eqb-true, eqb-false, ne-eqb}
 use native.Mathlib.Omega.{arith}
+use Rattle.format.specs.Padded.{padded}
 use Rattle.labeling.specs.Points.{Choice}
 use Rattle.labeling.specs.Marks.{Valid}
 use Rattle.labeling.specs.Best.{weight, count, bestCount}
@@ -33,7 +34,7 @@ use Rattle.plate_maker.specs.Making.{makeOutcome, makeOutcomeOf, BestOutput, Ma
 use Rattle.plate_maker.specs.declared.MakeAnswer.{MakeAnswer}
 use Rattle.plate_maker.specs.declared.MakeAnswer.the-variants.{Made, Refused}
 use Rattle.desk.specs.Questions.{loadNo, positions, listCount, listNo, loadedListNo, markNo}
-use Rattle.desk.specs.Desk.{padded, fresh, loadOf, loadOutcome, verdictBy, verdictOf, firstNo, withLast, markOf, markOutcome}
+use Rattle.desk.specs.Desk.{fresh, loadOf, loadOutcome, verdictBy, verdictOf, firstNo, withLast, markOf, markOutcome}
 use Rattle.desk.specs.DeskLaws.{load-yes, load-no, none-load, mark-yes, mark-no, none-mark}
 use Rattle.desk.specs.Lists.{Listed, none-list, list-count, choice-listed}
 use Rattle.desk.specs.Loaded.{points-same, count-same, sectionRead, section-read}
@@ -307,7 +308,7 @@ plate-made-best s p a m = by (m .answer) (m .made) (m .not-refused) (m .plate)
 -- What the desk holds of the last accepted sheet.
 SheetHeld : Desk → Option (List ℕ) → Type 0
 SheetHeld d none = d .loaded ≡ false
-SheetHeld d (some s) = (d .loaded ≡ true) × (d .sheet ≡ padded s) × (d .best ≡ bestCount (pointsOf s)) × Accepted s
+SheetHeld d (some s) = (d .loaded ≡ true) × (d .sheet ≡ padded 202 s) × (d .best ≡ bestCount (pointsOf s)) × Accepted s
 
 abbrev isSome : Option (List ℕ) → Bool
 isSome none = false

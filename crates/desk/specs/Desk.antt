@@ -1,11 +1,12 @@
 -- What load and mark answer and leave, on every value of the desk, reachable or not (document 01, "The desk"). Assumes nothing.
 use mathlib.Core.Path.{_≡_, refl, sym}
 use mathlib.Core.Bool.{Bool, true, false, cond, not, true≢false}
-use mathlib.Core.List.{List, _++_}
+use mathlib.Core.List.{List}
 use mathlib.Core.Option.{Option, none, some}
 use Prim.Native.Nat.{ℕ, _-_}
 use lib.Dec.{eqb}
 use lib.ListN.{length, replicate}
+use Rattle.format.specs.Padded.{padded}
 use Rattle.labeling.specs.Best.{bestCount}
 use Rattle.format.specs.Sheet.{pointCount, pointsOf}
 use Rattle.format.specs.Answers.{Outcome}
@@ -24,10 +25,6 @@ use Rattle.desk.specs.declared.MarkResult.{MarkResult}
 use Rattle.desk.specs.declared.Verdict.{Verdict}
 use Rattle.desk.specs.declared.Verdict.the-variants.{Valid, Clash as ClashVerdict}
 
--- The desk's 202 bytes for the sheet s: zeros past its end. 202 is 10 + 6 · 32.
-unfoldable pub padded : List ℕ → List ℕ
-padded s = s ++ replicate (202 - length s) 0
-
 -- No bytes of a sheet.
 unfoldable pub noSheet : List ℕ
 noSheet = replicate 202 0
@@ -38,9 +35,10 @@ fresh = record { sheet = noSheet; loaded = false; best = 0; last = 0 }
 
 -- LOAD
 
--- "A load replaces the sheet and its best count and keeps the last number."
+-- "A load replaces the sheet and its best count and keeps the last number." The desk has 202 bytes for a sheet, 10 + 6 · 32, zeros past
+-- its end.
 abbrev pub withSheet : Desk → List ℕ → ℕ → Desk
-withSheet d s best = record { sheet = padded s; loaded = true; best = best; last = d .last }
+withSheet d s best = record { sheet = padded 202 s; loaded = true; best = best; last = d .last }
 
 -- "The first no ends the call with its number ...; buffers, workspace and desk stay untouched."
 abbrev pub refusedLoad : Desk → ℕ → LoadResult

@@ -8,6 +8,7 @@ use lib.ListN.{length, getD, take, drop, replicate, length-replicate, getD-repli
 use lib.Seq.{getD-append-add, take-at, drop-at}
 use borrow.Author.Tests.{ltb-true, ltb-false}
 use native.Mathlib.Omega.{arith}
+use Rattle.format.specs.Padded.{padded}
 use Rattle.labeling.specs.Tests.{decide}
 use Rattle.labeling.specs.Points.{Choice, outside, placed}
 use Rattle.labeling.specs.Best.{weight, count}
@@ -17,7 +18,6 @@ use Rattle.format.specs.Plate.{insideBelow, insideSection, outsideSection, pair
 use Rattle.format.specs.PlateLength.{inside-length}
 use Rattle.plate_reader.specs.PlateQuestions.{sheetLength, insideCount}
 use Rattle.plate_reader.specs.PlateSections.{Parts, read-back}
-use Rattle.desk.specs.Desk.{padded}
 
 -- THE PADDED BYTES
 
@@ -28,7 +28,7 @@ zeros n k =
     (λ e. List·getD-eq-default (replicate n 0) 0 (rw (length-replicate {A = ℕ} n 0) (ltb-false k n e)))
 
 -- bytes past the end read 0, padded or not
-byte-same : (s : List ℕ) (k : ℕ) → getD (padded s) k 0 ≡ getD s k 0
+byte-same : (s : List ℕ) (k : ℕ) → getD (padded 202 s) k 0 ≡ getD s k 0
 unfolding padded
 byte-same s k =
     decide (ltb k (length s))
@@ -39,12 +39,12 @@ byte-same s k =
     ∙ zeros (202 - length s) (k - length s)
     ∙ sym (List·getD-eq-default s 0 l))
 
-two-same : (s : List ℕ) (k : ℕ) → twoBytes (padded s) k ≡ twoBytes s k
+two-same : (s : List ℕ) (k : ℕ) → twoBytes (padded 202 s) k ≡ twoBytes s k
 unfolding twoBytes
 two-same s k = ap₂ (λ a b. a + 256 * b) (byte-same s k) (byte-same s (k + 1))
 
 -- so the figures are the sheet's
-pub points-same : (s : List ℕ) → pointsOf (padded s) ≡ pointsOf s
+pub points-same : (s : List ℕ) → pointsOf (padded 202 s) ≡ pointsOf s
 points-same s = λ i. record {
   n = byte-same s 9 i;
   mapWidth = two-same s 1 i;
@@ -55,7 +55,7 @@ points-same s = λ i. record {
   row = λ k. two-same s (14 + 6 * k) i;
 }
 
-pub count-same : (s : List ℕ) → pointCount (padded s) ≡ pointCount s
+pub count-same : (s : List ℕ) → pointCount (padded 202 s) ≡ pointCount s
 count-same s = byte-same s 9
 
 -- A PLATE AT THE START OF AN OUTPUT

@@ -5,7 +5,8 @@ use crate::LoadResult;
 ghost use mathlib.Core.Path.{_≡_};
 ghost use Prim.Native.Nat.{_≤_};
 ghost use lib.ListN.{length};
-ghost use Rattle.desk.specs.Desk.{noSheet, padded, refusedLoad, withSheet};
+ghost use Rattle.format.specs.Padded.{padded};
+ghost use Rattle.desk.specs.Desk.{noSheet, refusedLoad, withSheet};
 ghost use Rattle.desk.specs.Blank.{blankPlate};
 
 // The bytes of no sheet.
@@ -18,7 +19,7 @@ pub(crate) fn no_sheet() -> [u8; 202]
 // The bytes of a sheet, and zeros past its end.
 fn padded_sheet(sheet: &[u8]) -> [u8; 202]
     requires { ⌜ length (now sheet) ≤ 202 ⌝ }
-    ensures { λ r. ⌜ r ≡ padded (now (sheet .entry)) ⌝ }
+    ensures { λ r. ⌜ r ≡ padded 202 (now (sheet .entry)) ⌝ }
 {
     let mut bytes = no_sheet();
     let mut k = 0;

@@ -3,6 +3,7 @@ pub mod Reader
 pub mod Asking
 pub mod Plate
 pub mod Bytes
+pub mod Padded
 pub mod Answers
 pub mod Accepted
 pub mod Start

@@ -1,30 +1,27 @@
 -- What best_choice answers and leaves. Assumes nothing.
 use mathlib.Core.Path.{_≡_}
-use mathlib.Core.List.{List, _++_}
-use Prim.Native.Nat.{ℕ, _-_}
+use mathlib.Core.List.{List}
+use Prim.Native.Nat.{ℕ}
 use lib.ListN.{length, replicate}
 use Rattle.labeling.specs.Points.{Choice, outside}
 use Rattle.labeling.specs.Marks.{Valid}
 use Rattle.labeling.specs.Best.{count, bestCount}
 use Rattle.format.specs.Sheet.{pointCount, pointsOf}
 use Rattle.format.specs.Plate.{insideBelow}
+use Rattle.format.specs.Padded.{padded}
 use Rattle.format.specs.MakingQuestions.{makingNo, workspaceAfter}
 use Rattle.optimum.specs.declared.BestChoice.{BestChoice}
 
--- The 32 cells of a list of positions: the positions, and 0 past them.
-unfoldable pub padded : List ℕ → List ℕ
-padded l = l ++ replicate (32 - length l) 0
-
--- The two lists of a valid choice with the best count: "one byte for each inside position, ascending", and the outside points "from the
+-- The two lists of a valid choice with the best count, each in 32 cells: "one byte for each inside position, ascending", and the outside points "from the
 -- highest row down". WHICH BEST CHOICE IT IS STAYS OPEN, because document 01 leaves it open: "Which best choice is returned is open
 -- where several exist."
 pub record BestSplit (s : List ℕ) (r : BestChoice) : Type 0 where
   pub choice : Choice
   pub valid : Valid (pointsOf s) choice
   pub best : count (pointsOf s) choice ≡ bestCount (pointsOf s)
-  pub inside : r .inside ≡ padded (insideBelow choice (pointCount s))
+  pub inside : r .inside ≡ padded 32 (insideBelow choice (pointCount s))
   pub inside-count : r .«inside_count» ≡ length (insideBelow choice (pointCount s))
-  pub outside-points : r .outside ≡ padded (outside (pointsOf s) choice)
+  pub outside-points : r .outside ≡ padded 32 (outside (pointsOf s) choice)
   pub outside-count : r .«outside_count» ≡ length (outside (pointsOf s) choice)
 
 -- Refused with the number k: no lists.

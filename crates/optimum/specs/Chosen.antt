@@ -15,6 +15,7 @@ use Rattle.labeling.specs.Optimum.{optimum, chosen}
 use Rattle.labeling.specs.Positions.{SameChoice, best-optimum, chosen-best}
 use Rattle.format.specs.Sheet.{pointCount, pointsOf}
 use Rattle.format.specs.Plate.{insideBelow}
+use Rattle.format.specs.Padded.{padded}
 use Rattle.format.specs.Accepted.{Accepted}
 use Rattle.format.specs.MakingQuestions.{makingNo}
 use Rattle.orders.specs.Arrays.{heightsOf, positionAt}
@@ -22,7 +23,7 @@ use Rattle.optimum.specs.Table.{Blank, Solved}
 use Rattle.optimum.specs.Prepared.{Prepared}
 use Rattle.optimum.specs.Split.{marked, outsideDown, outsidePositions}
 use Rattle.optimum.specs.Outside.{down-outside-points}
-use Rattle.optimum.specs.Choosing.{padded, BestSplit, nothingChosen, Choosing}
+use Rattle.optimum.specs.Choosing.{BestSplit, nothingChosen, Choosing}
 use Rattle.optimum.specs.declared.BestChoice.{BestChoice}
 
 -- The marks by position are those by height.
@@ -41,9 +42,9 @@ mark-is false = refl
 -- What the two lists of marks are.
 pub record TwoLists (n : ℕ) (heights marks : List ℕ) (r : BestChoice) : Type 0 where
   pub number : r .number ≡ 0
-  pub inside : r .inside ≡ padded (insideBelow (marked marks) n)
+  pub inside : r .inside ≡ padded 32 (insideBelow (marked marks) n)
   pub inside-count : r .«inside_count» ≡ length (insideBelow (marked marks) n)
-  pub outside : r .outside ≡ padded (outsidePositions heights marks)
+  pub outside : r .outside ≡ padded 32 (outsidePositions heights marks)
   pub outside-count : r .«outside_count» ≡ length (outsidePositions heights marks)
 
 module _ (s heights mark marks : List ℕ) {k : ℕ} (a : Accepted s) (p : Prepared s heights) (solved : Solved (heightsOf heights) mark k) (by : ByPosition heights mark marks) where
@@ -79,7 +80,7 @@ module _ (s heights mark marks : List ℕ) {k : ℕ} (a : Accepted s) (p : Prepa
     best = marks-count;
     inside = t .inside;
     inside-count = t .inside-count;
-    outside-points = t .outside ∙ ap padded listed;
+    outside-points = t .outside ∙ ap (padded 32) listed;
     outside-count = t .outside-count ∙ ap length listed;
   }
 

@@ -2,14 +2,14 @@
 use mathlib.Core.Path.{_≡_, refl, sym, _∙_, ap}
 use mathlib.Core.Bool.{true, false}
 use mathlib.Core.List.{List, [], _∷_, _++_, append-assoc, append-nil}
-use Prim.Native.Nat.{ℕ, zero, suc, _+_, _-_, _≤_, _<_}
+use Prim.Native.Nat.{ℕ, zero, suc, _+_, _≤_, _<_}
 use native.Mathlib.Numerals.{add-one}
 use native.Mathlib.Omega.{arith}
-use lib.ListN.{length, set, drop, replicate, length-append}
+use lib.ListN.{length, set, replicate, length-append}
 use Rattle.labeling.specs.Points.{Choice}
 use Rattle.labeling.specs.Tests.{decide}
 use Rattle.format.specs.Plate.{insideBelow}
-use Rattle.optimum.specs.Choosing.{padded}
+use Rattle.format.specs.Padded.{padded, drop-zeros}
 use Rattle.optimum.specs.Written.{written, written-none, written-more, written-first}
 use Rattle.optimum.specs.Split.{outsideDown, Listed}
 
@@ -65,11 +65,6 @@ listed-whole whole d count list f =
 
 -- A LIST WRITTEN INTO ZEROS
 
-drop-zeros : (n k : ℕ) → drop {A = ℕ} k (replicate n 0) ≡ replicate (n - k) 0
-drop-zeros n zero = let e : n - 0 ≡ n = omega arith in rw e
-drop-zeros zero (suc k) = let e : 0 - suc k ≡ 0 = omega arith in rw e
-drop-zeros (suc n) (suc k) = let e : suc n - suc k ≡ n - k = omega arith in rw e (drop-zeros n k)
-
-pub written-padded : (l : List ℕ) → written (replicate 32 0) 0 l ≡ padded l
+pub written-padded : (l : List ℕ) → written (replicate 32 0) 0 l ≡ padded 32 l
 unfolding padded
 written-padded l = written-first (replicate 32 0) l ∙ ap (λ x. l ++ x) (drop-zeros 32 (length l))

@@ -1,17 +1,16 @@
 -- What the questions of a plate ask, as facts; a plate's bytes from its sections, and its sections from the bytes that plateOf gives.
 -- Assumes nothing.
 use mathlib.Core.Path.{_≡_, refl, sym, ap, ap₂, _∙_}
-use mathlib.Core.Bool.{true, cond, not}
+use mathlib.Core.Bool.{true, not}
 use mathlib.Core.List.{List, [], _∷_, _++_, append-assoc}
 use Prim.Native.Nat.{ℕ, suc, _+_, _*_, _≤_, _<_}
-use lib.Dec.{eqb}
 use lib.ListN.{length, getD, take, drop, length-append, length-drop, take-append-drop, List·getD-append}
 use lib.Seq.{length-take-le, getD-take, drop-cons, drop-drop, take-at, drop-at, getD-at}
-use borrow.Author.Tests.{eqb-true, eqb-false, eq-eqb}
 use native.Mathlib.Omega.{arith}
 use Rattle.labeling.specs.Points.{outside}
-use Rattle.labeling.specs.Tests.{not-both, decide, Decides, dec-eq, dec-and, dec-true}
+use Rattle.labeling.specs.Tests.{not-both, Decides, dec-eq, dec-and, dec-true}
 use Rattle.labeling.specs.Best.{count, weight, weightBelow, oneEach}
+use Rattle.format.specs.Asking.{none-then}
 use Rattle.format.specs.Sheet.{twoBytes, pointCount, pointsOf}
 use Rattle.format.specs.Accepted.{Proper, Accepted, NoneOf, none-ask, none-left, none-plate-sheet}
 use Rattle.format.specs.Plate.{choiceOf, insideBelow}
@@ -48,15 +47,6 @@ pub record Asked (p : List ℕ) : Type 0 where
   pub inside : ascending (pointCount p) (insideList p) ≡ true
   pub outside : pairsRight (pointsOf (sheetOf p)) (choiceOf (insideList p)) (outsidePairs p) ≡ true
   pub apart : firstClash (pointsOf (sheetOf p)) (choiceOf (insideList p)) ≡ None
-
--- one list of questions after another
-none-then : {first later : ℕ} {A B : Type 0} → NoneOf first A → NoneOf later B → NoneOf (cond (eqb first 0) later first) (A × B)
-none-then {first} {later} a b = record {
-  is = λ z. decide (eqb first 0)
-      (λ t. (a .is (eqb-true first 0 t), b .is (rw t at z)))
-      (λ t. let q : first ≡ 0 = rw t at z in absurd (eqb-false first 0 t q));
-  of = λ y. rw (eq-eqb first 0 (a .of (y .0))) (b .of (y .1));
-}
 
 none-sections : (p : List ℕ) → NoneOf (sectionsNo p) (Fitting p × ((ascending (pointCount p) (insideList p) ≡ true) × ((pairsRight (pointsOf (sheetOf p)) (choiceOf (insideList p)) (outsidePairs p) ≡ true) × ((firstClash (pointsOf (sheetOf p)) (choiceOf (insideList p)) ≡ None) × Unit {0}))))
 unfolding sectionsNo
