@@ -7,6 +7,7 @@ ghost use lib.ListN.{getD};
 ghost use Rattle.format.specs.Sheet.{twoBytes, mapWidth, mapHeight, labelWidth, labelHeight, pointCount, callNumber, column as columnOf, row as rowOf, upTo, unlikeEarlier, pointNo, pointsNo, questionsNo, sheetNo, pointsOf};
 ghost use Rattle.labeling.specs.Points.{nextMargin};
 ghost use Rattle.format.specs.Answers.{sheetOutcome, outcomeOf};
+ghost use Rattle.format.specs.Reader.{pointAt};
 use reader::SheetPoint;
 use reader::walked;
 
@@ -161,12 +162,11 @@ fn unlike_earlier(sheet: &[u8], place: usize, position: u8) -> bool
     true
 }
 
-// The first no of 17 to 20 for one position, 0 for none.
-fn point_no(sheet: &[u8], position: u8) -> u8
+// The first no of 17 to 20 for one position and its point, 0 for none.
+fn point_no(sheet: &[u8], position: u8, point: SheetPoint) -> u8
+    requires { ⌜ point ≡ pointAt (now sheet) position ⌝ }
     ensures { λ r. ⌜ r ≡ pointNo (now (sheet .entry)) position ⌝ }
 {
-    let step = walked(sheet, position);
-    let point = step.point;
     if !up_to(9999, point.call_number) {
         return 17;
     }
@@ -192,7 +192,7 @@ fn points_no(sheet: &[u8]) -> u8
         if step.left == 0 {
             return 0;
         }
-        let no = point_no(sheet, position);
+        let no = point_no(sheet, position, step.point);
         if no != 0 {
             return no;
         }

@@ -5,27 +5,24 @@ use mathlib.Core.Bool.{_&&_}
 use mathlib.Core.Path.{_≡_, refl, ap, _∙_}
 use Rattle.format.specs.Sheet.{mapWidth, mapHeight, callNumber, column, row, upTo, pointNo}
 use Rattle.format.specs.Asking.{ask-no, ask-yes, off, on}
-use Rattle.format.specs.declared.reader.SheetStep.{SheetStep}
+use Rattle.format.specs.declared.reader.SheetPoint.{SheetPoint}
 use Rattle.format.proofs.point_no.Statement.{statement}
 use Rattle.format.proofs.point_no.Tie as tie
-
-walked-requires : tie.Need-walked-requires
-walked-requires c κs = search needs
 
 up-to-requires : tie.Need-up-to-requires
 up-to-requires c κs = search needs
 
--- the tests of the walked point are those of its position
-allowed : (c : tie.After-up-to) → c .up-to .result ≡ upTo 9999 (callNumber (c .before .before .before .before .args .sheet .now) (c .before .before .before .before .args .position))
-allowed c = c .up-to .ensures ∙ ap (λ (t : SheetStep). upTo 9999 (t .point .«call_number»)) (c .before .before .walked .ensures)
+-- the tests of the point are those of its position
+allowed : (c : tie.After-up-to) → c .up-to .result ≡ upTo 9999 (callNumber (c .before .before .args .sheet .now) (c .before .before .args .position))
+allowed c = c .up-to .ensures ∙ ap (λ (t : SheetPoint). upTo 9999 (t .«call_number»)) (c .before .before .pre)
 
 on-the-map : (c : tie.After-on-map)
-    → let s = c .before .before .before .before .before .before .args .sheet .now in
-    let i = c .before .before .before .before .before .before .args .position in
+    → let s = c .before .before .before .before .args .sheet .now in
+    let i = c .before .before .before .before .args .position in
     c .on-map .result ≡ (ltb (column s i) (mapWidth s) && ltb (row s i) (mapHeight s))
 on-the-map c =
-    let s = c .before .before .before .before .before .before .args .sheet .now in
-    c .on-map .ensures ∙ ap (λ (t : SheetStep). ltb (t .point .column) (mapWidth s) && ltb (t .point .row) (mapHeight s)) (c .before .before .before .before .walked .ensures)
+    let s = c .before .before .before .before .args .sheet .now in
+    c .on-map .ensures ∙ ap (λ (t : SheetPoint). ltb (t .column) (mapWidth s) && ltb (t .row) (mapHeight s)) (c .before .before .before .before .pre)
 
 returns : tie.Need-returns
 unfolding pointNo
@@ -73,7 +70,6 @@ pub point-no-spec : {M : Type 1} → statement M
 point-no-spec =
     tie.close
     (tie.spec
-    walked-requires
     up-to-requires
     returns
     on-map-requires

@@ -41,7 +41,7 @@ returns c =
     sym (ap (pointsNo s) (sym end) ∙ c .before .before .before .loop .inv .1)
 
 point-no-requires : tie.Need-point-no-requires Inv-loop μ-loop
-point-no-requires c κs = search needs
+point-no-requires c κs = ap (λ (x : SheetStep). x .point) (c .before .before .walked .ensures)
 
 returns-2 : tie.Need-returns-2 Inv-loop μ-loop
 returns-2 c =
