@@ -1,25 +1,15 @@
 // Runs the items on standard input and writes a line for each, with what document 01 fixes and nothing else. An item is a kind byte and
 // one part: a two-byte length, low byte first, and that many bytes. Kind 1 is a sheet, 2 a plate; 3 loads a sheet on the program's desk,
 // and 4 marks a list there. At an item that is cut short or of another kind it writes `bad item` and stops.
-use clash::ClashKind;
 use desk::Desk;
-use desk::LoadAnswer;
-use desk::MarkAnswer;
-use desk::Verdict;
-use libc::STDIN_FILENO;
 use libc::STDOUT_FILENO;
 use plate_maker::MakeAnswer;
 use plate_reader::PlateAnswer;
 use plate_reader::inside_count;
-ghost use Prim.Native.Nat.{_≤_};
-ghost use lib.ListN.{length};
-
-// What the input has next: an item, whose part fills the first bytes of the buffer; what is none; or its end.
-enum Item {
-    Part { kind: u8, length: u16 },
-    Bad,
-    End,
-}
+use session::Part;
+use session::next_part;
+use session::run_load;
+use session::run_mark;
 
 fn print_word(word: &[u8]) {
     io::write_all(STDOUT_FILENO, word);
@@ -92,109 +82,7 @@ fn run_plate(plate: &[u8]) {
     }
 }
 
-// THE DESK
-
-// Point count and best count of the desk's sheet.
-fn print_loaded(desk: Desk) {
-    let sheet = desk.sheet;
-    print_word(b"loaded");
-    print_number(format::point_count(&sheet) as u64);
-    print_number(desk.best as u64);
-    end_line();
-}
-
-fn run_load(desk: Desk, sheet: &[u8]) -> Desk {
-    let mut workspace = [0u16; 32768];
-    let result = desk.load(sheet, &mut workspace);
-    let after = result.desk;
-    let answer = result.answer;
-    match answer {
-        LoadAnswer::Accepted => print_loaded(after),
-        LoadAnswer::Refused(number) => print_refusal(number),
-    }
-    after
-}
-
-fn print_kind(kind: ClashKind) {
-    match kind {
-        ClashKind::Labels => print_word(b" labels"),
-        ClashKind::LabelAndLeader => print_word(b" leader"),
-    }
-}
-
-fn print_verdict(verdict: Verdict) {
-    match verdict {
-        Verdict::Valid { count, shortfall } => {
-            print_word(b" valid");
-            print_number(count as u64);
-            print_number(shortfall as u64);
-        }
-        Verdict::Clash {
-            first,
-            second,
-            kind,
-        } => {
-            print_word(b" clash");
-            print_number(first as u64);
-            print_number(second as u64);
-            print_kind(kind);
-        }
-    }
-    end_line();
-}
-
-fn run_mark(desk: Desk, list: &[u8]) -> Desk {
-    let result = desk.mark(list);
-    let after = result.desk;
-    let answer = result.answer;
-    match answer {
-        MarkAnswer::Marked { number, verdict } => {
-            io::print_decimal(STDOUT_FILENO, number as u64);
-            print_verdict(verdict);
-        }
-        MarkAnswer::Refused(number) => print_refusal(number),
-    }
-    after
-}
-
 // ITEMS
-
-fn is_kind(kind: u8) -> bool {
-    kind != 0 && kind < 5
-}
-
-// The number in two bytes, low byte first.
-fn number_in(low: u8, high: u8) -> u16 {
-    low as u16 + 256 * high as u16
-}
-
-// Reads until the first n bytes of the buffer are filled; no where the input ends before.
-fn fill(buffer: &mut [u8], n: usize) -> bool
-    requires { ⌜ n ≤ length (now buffer) ⌝ }
-{
-    io::read_full(STDIN_FILENO, &mut buffer[..n]) == n
-}
-
-fn read_item(buffer: &mut [u8]) -> Item
-    requires { ⌜ 65536 ≤ length (now buffer) ⌝ }
-{
-    let mut head = [0u8; 3];
-    let got = io::read_full(STDIN_FILENO, &mut head);
-    if got == 0 {
-        return Item::End;
-    }
-    if got < 3 || !is_kind(head[0]) {
-        return Item::Bad;
-    }
-    let length = number_in(head[1], head[2]);
-    if !fill(buffer, length as usize) {
-        return Item::Bad;
-    }
-    Item::Part {
-        kind: head[0],
-        length,
-    }
-}
 
 // Runs an item of one of the four kinds, and hands the desk back.
 fn run_item(desk: Desk, kind: u8, part: &[u8]) -> Desk {
@@ -218,16 +106,16 @@ fn main() {
     let mut desk = Desk::new();
     let mut turns = u64::MAX;
     while turns > 0 {
-        match read_item(&mut buffer) {
-            Item::Part { kind, length } => {
+        match next_part(&mut buffer, 4) {
+            Part::Of { kind, length } => {
                 let n = length as usize;
                 desk = run_item(desk, kind, &buffer[..n]);
             }
-            Item::Bad => {
+            Part::Bad => {
                 print_word(b"bad item\n");
                 return;
             }
-            Item::End => return,
+            Part::End => return,
         }
         turns -= 1;
     }

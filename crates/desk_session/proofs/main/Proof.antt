@@ -21,11 +21,11 @@ new-requires c κs = search needs
 loop-holds : tie.Need-loop-holds Inv-loop μ-loop
 loop-holds c = search needs
 
-slice-aggregate-read-call : tie.Need-slice-aggregate-read-call Inv-loop μ-loop
-slice-aggregate-read-call c = search needs
+slice-aggregate-next-part : tie.Need-slice-aggregate-next-part Inv-loop μ-loop
+slice-aggregate-next-part c = search needs
 
-read-call-requires : tie.Need-read-call-requires Inv-loop μ-loop
-read-call-requires c κs = search needs
+next-part-requires : tie.Need-next-part-requires Inv-loop μ-loop
+next-part-requires c κs = search needs
 
 enum-known-kind : tie.Need-enum-known-kind Inv-loop μ-loop
 enum-known-kind c = search needs
@@ -45,11 +45,11 @@ run-call-requires c κs = search needs
 enum-told : tie.Need-enum-told Inv-loop μ-loop
 enum-told c = search needs
 
-slice-aggregate-print-word : tie.Need-slice-aggregate-print-word Inv-loop μ-loop
-slice-aggregate-print-word c = search needs
+slice-aggregate-write-all : tie.Need-slice-aggregate-write-all Inv-loop μ-loop
+slice-aggregate-write-all c = search needs
 
-print-word-requires : tie.Need-print-word-requires Inv-loop μ-loop
-print-word-requires c κs = search needs
+write-all-requires : tie.Need-write-all-requires Inv-loop μ-loop
+write-all-requires c κs = search needs
 
 returns : tie.Need-returns Inv-loop μ-loop
 returns c = search needs
@@ -81,16 +81,16 @@ main-spec =
     large-buffer-requires
     new-requires
     loop-holds
-    slice-aggregate-read-call
-    read-call-requires
+    slice-aggregate-next-part
+    next-part-requires
     enum-known-kind
     cast-n
     array-share-prefix-buffer
     slice-aggregate-run-call
     run-call-requires
     enum-told
-    slice-aggregate-print-word
-    print-word-requires
+    slice-aggregate-write-all
+    write-all-requires
     returns
     enum-told-2
     returns-2
