@@ -2,14 +2,22 @@
 // one part: a two-byte length, low byte first, and that many bytes. Kind 1 is a sheet, 2 a plate; 3 loads a sheet on the program's desk,
 // and 4 marks a list there. At an item that is cut short or of another kind it writes `bad item` and stops.
 use desk::Desk;
+use libc::STDIN_FILENO;
 use libc::STDOUT_FILENO;
 use plate_maker::MakeAnswer;
 use plate_reader::PlateAnswer;
 use plate_reader::inside_count;
-use session::Part;
-use session::next_part;
 use session::run_load;
 use session::run_mark;
+ghost use Prim.Native.Nat.{_≤_};
+ghost use lib.ListN.{length};
+
+// What the input has next: an item, whose part fills the first bytes of the buffer; what is none; or its end.
+enum Item {
+    Part { kind: u8, length: u16 },
+    Bad,
+    End,
+}
 
 fn print_word(word: &[u8]) {
     io::write_all(STDOUT_FILENO, word);
@@ -84,6 +92,43 @@ fn run_plate(plate: &[u8]) {
 
 // ITEMS
 
+fn is_kind(kind: u8) -> bool {
+    kind != 0 && kind < 5
+}
+
+// The number in two bytes, low byte first.
+fn number_in(low: u8, high: u8) -> u16 {
+    low as u16 + 256 * high as u16
+}
+
+// Reads until the first n bytes of the buffer are filled; no where the input ends before.
+fn fill(buffer: &mut [u8], n: usize) -> bool
+    requires { ⌜ n ≤ length (now buffer) ⌝ }
+{
+    io::read_full(STDIN_FILENO, &mut buffer[..n]) == n
+}
+
+fn read_item(buffer: &mut [u8]) -> Item
+    requires { ⌜ 65536 ≤ length (now buffer) ⌝ }
+{
+    let mut head = [0u8; 3];
+    let got = io::read_full(STDIN_FILENO, &mut head);
+    if got == 0 {
+        return Item::End;
+    }
+    if got < 3 || !is_kind(head[0]) {
+        return Item::Bad;
+    }
+    let length = number_in(head[1], head[2]);
+    if !fill(buffer, length as usize) {
+        return Item::Bad;
+    }
+    Item::Part {
+        kind: head[0],
+        length,
+    }
+}
+
 // Runs an item of one of the four kinds, and hands the desk back.
 fn run_item(desk: Desk, kind: u8, part: &[u8]) -> Desk {
     if kind == 4 {
@@ -106,16 +151,16 @@ fn main() {
     let mut desk = Desk::new();
     let mut turns = u64::MAX;
     while turns > 0 {
-        match next_part(&mut buffer, 4) {
-            Part::Of { kind, length } => {
+        match read_item(&mut buffer) {
+            Item::Part { kind, length } => {
                 let n = length as usize;
                 desk = run_item(desk, kind, &buffer[..n]);
             }
-            Part::Bad => {
+            Item::Bad => {
                 print_word(b"bad item\n");
                 return;
             }
-            Part::End => return,
+            Item::End => return,
         }
         turns -= 1;
     }

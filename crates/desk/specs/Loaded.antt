@@ -12,11 +12,11 @@ use Rattle.format.specs.Padded.{padded}
 use Rattle.labeling.specs.Tests.{decide}
 use Rattle.labeling.specs.Points.{Choice, outside, placed}
 use Rattle.labeling.specs.Best.{weight, count}
-use Rattle.format.specs.Sheet.{twoBytes, pointCount, pointsOf}
+use Rattle.format.specs.Sheet.{twoBytes, pointCount, pointsOf, sheetLength}
 use Rattle.format.specs.Accepted.{Accepted}
 use Rattle.format.specs.Plate.{insideBelow, insideSection, outsideSection, pairs, plateOf}
 use Rattle.format.specs.PlateLength.{inside-length}
-use Rattle.plate_reader.specs.PlateQuestions.{sheetLength, insideCount}
+use Rattle.plate_reader.specs.PlateQuestions.{insideCount}
 use Rattle.plate_reader.specs.PlateSections.{Parts, read-back}
 
 -- THE PADDED BYTES

@@ -5,7 +5,7 @@ use mathlib.Core.Bool.{true, false, cond}
 use mathlib.Core.List.{List, [], _∷_, _++_}
 use Prim.Native.Nat.{ℕ, zero, suc, _+_, _≤_, _<_}
 use lib.Dec.{eqb}
-use lib.ListN.{length, getD}
+use lib.ListN.{length}
 use native.Mathlib.Omega.{arith}
 use Rattle.labeling.specs.Points.{Points, Choice, before, insert, outsideBelow, outside, nextMargin, placedFrom, placed, marginIn, marginColumn}
 use Rattle.labeling.specs.Tests.{decide}
@@ -49,15 +49,6 @@ margin-below P S i l e = omega (arith, margin-less P S i l e, outside-most P S)
 abbrev pub Bytes : List ℕ → Type 0
 Bytes [] = Unit {0}
 Bytes (x ∷ l) = (x < 256) × Bytes l
-
-pub bytes-at : (l : List ℕ) (k : ℕ) → Bytes l → getD l k 0 < 256
-bytes-at [] k b = omega arith
-bytes-at (x ∷ l) zero b = b .0
-bytes-at (x ∷ l) (suc k) b = bytes-at l k (b .1)
-
-pub bytes-of : (l : List ℕ) → ((k : ℕ) → k < length l → getD l k 0 < 256) → Bytes l
-bytes-of [] f = tt
-bytes-of (x ∷ l) f = (f 0 (omega arith), bytes-of l (λ k u. f (suc k) (omega arith)))
 
 bytes-append : (k l : List ℕ) → Bytes k → Bytes l → Bytes (k ++ l)
 bytes-append [] l a b = b

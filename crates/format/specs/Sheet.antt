@@ -31,6 +31,10 @@ labelHeight s = twoBytes s 7
 abbrev pub pointCount : List ℕ → ℕ
 pointCount s = getD s 9 0
 
+-- "A sheet has 10 + 6n bytes."
+abbrev pub sheetLength : List ℕ → ℕ
+sheetLength s = 10 + 6 * pointCount s
+
 -- "per point its call number, column and row (two bytes each)"
 abbrev pub callNumber : List ℕ → ℕ → ℕ
 callNumber s i = twoBytes s (10 + 6 * i)
@@ -98,8 +102,8 @@ questionsNo s fits =
 
 -- The first no of a sheet, 0 if there is none.
 unfoldable pub sheetNo : List ℕ → ℕ
-sheetNo s = questionsNo s (eqb (length s) (10 + 6 * pointCount s))
+sheetNo s = questionsNo s (eqb (length s) (sheetLength s))
 
 -- The first no of the sheet at the start of a plate, 0 if there is none.
 unfoldable pub plateSheetNo : List ℕ → ℕ
-plateSheetNo p = questionsNo p (leb (10 + 6 * pointCount p) (length p))
+plateSheetNo p = questionsNo p (leb (sheetLength p) (length p))

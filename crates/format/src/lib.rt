@@ -4,7 +4,7 @@ ghost use Prim.Native.Nat.{_+_, _*_, _<_};
 ghost use mathlib.Core.Bool.{_&&_};
 ghost use lib.Dec.{ltb};
 ghost use lib.ListN.{getD};
-ghost use Rattle.format.specs.Sheet.{twoBytes, mapWidth, mapHeight, labelWidth, labelHeight, pointCount, callNumber, column as columnOf, row as rowOf, upTo, unlikeEarlier, pointNo, pointsNo, questionsNo, sheetNo, pointsOf};
+ghost use Rattle.format.specs.Sheet.{twoBytes, sheetLength, mapWidth, mapHeight, labelWidth, labelHeight, pointCount, callNumber, column as columnOf, row as rowOf, upTo, unlikeEarlier, pointNo, pointsNo, questionsNo, sheetNo, pointsOf};
 ghost use Rattle.labeling.specs.Points.{nextMargin};
 ghost use Rattle.format.specs.Answers.{sheetOutcome, outcomeOf};
 ghost use Rattle.format.specs.Reader.{pointAt};
@@ -227,7 +227,7 @@ pub fn questions_no(sheet: &[u8], fits: bool) -> u8
 
 // The sheet's bytes that its point count asks for.
 pub fn sheet_length(sheet: &[u8]) -> usize
-    ensures { λ r. ⌜ (r ≡ 10 + 6 * pointCount (now (sheet .entry))) × (r < 2000) ⌝ }
+    ensures { λ r. ⌜ (r ≡ sheetLength (now (sheet .entry))) × (r < 2000) ⌝ }
 {
     10 + 6 * point_count(sheet) as usize
 }

@@ -9,7 +9,7 @@ use borrow.Author.Tests.{lt-ltb, le-ltb, eq-eqb, ne-eqb}
 use native.Mathlib.Omega.{arith}
 use Rattle.labeling.specs.Tests.{decide, same, Decides, dec-lt, dec-le, dec-and, dec-not, dec-true}
 use Rattle.labeling.specs.Recurrence.{Heights, Point, Sorted, Overlap, overlaps, reachesOver, greatest, reachesAbove, reach, good}
-use Rattle.labeling.specs.RecurrenceTests.{less, dec-map, dec-unique, dec-if-le, dec-if-pos, greatest-le, greatest-is, greatest-most, Between, Good, dec-good, dec-overlaps, Reaches, dec-reaches, Reached, newer, older, nobody, reach-is, dec-above}
+use Rattle.labeling.specs.RecurrenceTests.{less, dec-map, dec-unique, dec-if-le, dec-if-pos, greatest-le, greatest-is, greatest-most, Between, Good, dec-good, dec-overlaps, Reaches, dec-reaches, dec-above}
 
 -- THE LEAST
 
@@ -103,21 +103,6 @@ module _ (H : Heights) where
   unfolding overlapsAbove
   dec-high i j = dec-and (dec-lt _ _) (dec-and (dec-lt _ _) (dec-overlaps H i j))
 
-  -- low is at most n.
-  pub low-bound : (i : ℕ) → lowOf H i ≤ H .n
-  unfolding lowOf
-  low-bound i = greatest-le (overlapsBelow H i) (H .n)
-
-  -- high is at most n + 1.
-  pub high-bound : (i : ℕ) → highOf H i ≤ suc (H .n)
-  unfolding highOf
-  high-bound i = least-le (overlapsAbove H i) (suc (H .n)) (H .n) (omega arith)
-
-  -- top is at most n.
-  pub top-bound : (p : ℕ) → topOf H p ≤ H .n
-  unfolding topOf
-  top-bound p = greatest-le (reachesOver H p) (H .n)
-
   -- top of a point is below it.
   pub top-below : (p : ℕ) → 1 ≤ p → topOf H p < p
   unfolding topOf
@@ -125,15 +110,6 @@ module _ (H : Heights) where
     where
       x : ℕ
       x = greatest (reachesOver H p) (H .n)
-
-  -- What `reach` gives is below p.
-  pub reach-below : (a p q : ℕ) → 1 ≤ p → reach H a p q < p
-  reach-below a p q l = below (reach H a p q) (reach-is H a p q)
-    where
-      below : (r : ℕ) → Reached H a p q r → r < p
-      below r (newer m u) = m .high
-      below r (older m e) = omega (arith, m .high)
-      below r (nobody e) = omega arith
 
   -- WHAT `reach` GIVES, by the topmost label.
   pub reach-top : (a p q : ℕ) → p ≤ H .n → reach H a p q ≡ cond (ltb a (topOf H p)) (topOf H p) (cond (reachesOver H p q) q 0)

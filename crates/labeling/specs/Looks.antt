@@ -1,4 +1,4 @@
--- Single pixels looked at: a list of pixels with the position that marks each of them, or doesn't; and such a list for P8. Since the
+-- Single pixels looked at: a list of pixels with the position that marks each of them, or doesn't; and such lists for P8 and P9. Since the
 -- margin never conflicts, a leader or an outer label that is drawn wrong there passes every theorem about validity; a look refuses it.
 -- Assumes nothing.
 use mathlib.Core.Path.{_≡_, refl}

@@ -6,7 +6,7 @@ use native.Mathlib.Omega.{arith}
 use Rattle.labeling.specs.Points.{Points}
 use Rattle.labeling.specs.Totals.{all}
 use Rattle.labeling.specs.Recurrence.{Heights, Point, Sorted, overlaps, reachesOver, greatest, total}
-use Rattle.labeling.specs.Comparisons.{least, overlapsBelow, overlapsAbove, lowOf, highOf, topOf}
+use Rattle.labeling.specs.Comparisons.{least, overlapsAbove, highOf, topOf}
 use Rattle.labeling.specs.Positions.{Arranged, AllAllowed}
 
 -- G has the same points as H, of which there are few, and the same ranks of the boundaries.
@@ -85,13 +85,6 @@ module _ {H G : Heights} (S : SameHeights H G) where
   reaches-same p i l m = rw (S .column i m, S .column p l, S .row i m, S .row p l, S .w, S .h)
 
   -- THE THREE NUMBERS
-  pub low-same : (i : ℕ) → i ≤ H .n → lowOf G i ≡ lowOf H i
-  unfolding lowOf overlapsBelow
-  low-same i l =
-      ap (greatest (overlapsBelow G i)) (S .n)
-      ∙ greatest-same (overlapsBelow G i) (overlapsBelow H i) (H .n)
-      (λ j k m. rw (S .rank i (small i l), S .rank j (small j m), overlaps-same i j (small i l) (small j m)))
-
   pub high-same : (i : ℕ) → i ≤ H .n → highOf G i ≡ highOf H i
   unfolding highOf overlapsAbove
   high-same i l =

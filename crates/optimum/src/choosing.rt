@@ -66,7 +66,7 @@ fn two_lists(n: u8, heights: &PointArray, marks: &[u8; 32]) -> BestChoice
     }
 }
 
-// A best choice of an accepted sheet, whose points are in order, and a workspace of zeros.
+// A best choice of an accepted sheet, whose points are in order. The workspace is left zero.
 pub(crate) fn chosen(sheet: &[u8], points: PointArray, workspace: &mut [u16]) -> BestChoice
     requires { ⌜ (sheetNo (now sheet) ≡ 0) × BothOrders (now sheet) points × Room (now workspace) ⌝ }
     ensures { λ r. ⌜ (r .number ≡ 0) × BestSplit (now (sheet .entry)) r × (now (workspace .exit) ≡ replicate (length (now (workspace .entry))) 0) ⌝ }

@@ -1,4 +1,4 @@
-// Which labels meet, and which points may be inside: the tests of the recurrence, as comparisons of numbers.
+// Which labels overlap, and which points may be inside: the tests of the recurrence, as comparisons of numbers.
 ghost use mathlib.Core.Path.{_≡_};
 ghost use Prim.Native.Nat.{_+_, _<_, _≤_};
 ghost use Rattle.labeling.specs.Recurrence.{Point, overlaps, reachesOver, reach, good, clear};
@@ -17,8 +17,8 @@ use crate::points::top_at;
 use crate::table::State;
 use orders::PointArray;
 
-// Two stretches of length d, from x and from y on, meet.
-fn stretches_meet(x: usize, y: usize, d: usize) -> bool
+// Two stretches of length d, from x and from y on, share a place.
+fn stretches_overlap(x: usize, y: usize, d: usize) -> bool
     requires { ⌜ (x < 65536) × (y < 65536) × (d < 65536) ⌝ }
     ensures { λ r. ⌜ r ≡ near x y d ⌝ }
 {
@@ -29,18 +29,18 @@ fn stretches_meet(x: usize, y: usize, d: usize) -> bool
 }
 
 // The labels of i and j share a pixel.
-pub(crate) fn labels_meet(heights: &PointArray, i: usize, j: usize) -> bool
+pub(crate) fn labels_overlap(heights: &PointArray, i: usize, j: usize) -> bool
     requires { ⌜ (i < 34) × (j < 34) ⌝ }
     ensures { λ r. ⌜ r ≡ overlaps (heightsOf (now (heights .entry))) i j ⌝ }
 {
-    if !stretches_meet(
+    if !stretches_overlap(
         column_at(heights, i),
         column_at(heights, j),
         label_width(heights),
     ) {
         return false;
     }
-    stretches_meet(
+    stretches_overlap(
         row_at(heights, i),
         row_at(heights, j),
         label_height(heights),
@@ -121,5 +121,5 @@ pub(crate) fn may_be_inside(heights: &PointArray, state: State, p: usize) -> boo
     if state.reaching == 0 {
         return true;
     }
-    !labels_meet(heights, p, state.reaching)
+    !labels_overlap(heights, p, state.reaching)
 }

@@ -1,4 +1,4 @@
-// Reading the points in height order from their array. orders/specs/Arrays.antt has its layout: field after field, 34 cells each.
+// Reading the points in height order from their array. orders/specs/Arrays.antt has its layout.
 ghost use mathlib.Core.Path.{_≡_};
 ghost use Prim.Native.Nat.{_+_, _*_, _<_};
 ghost use lib.ListN.{getD};

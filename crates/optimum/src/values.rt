@@ -116,7 +116,7 @@ pub(crate) fn step(heights: &PointArray, table: &[u16], state: State, t: usize, 
         };
     }
     Run {
-        best: best,
+        best,
         acc: run.acc + weight_at(heights, p),
         ended: false,
     }

@@ -16,7 +16,7 @@ blankOf = replicate 517 0
 
 -- THE CELLS
 
--- The sheet's numbers, the two tables, and a weight of 1 and the permission to be inside for each point; 0 elsewhere.
+-- The sheet's numbers, the two tables, and a weight of 1 and the permission to be inside for each of 34 places; 0 elsewhere.
 pub record Numbers (sheet s : List ℕ) : Type 0 where
   pub long : length s ≡ 517
   pub n-is : getD s 514 0 ≡ pointCount sheet

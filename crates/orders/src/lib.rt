@@ -15,7 +15,7 @@ mod questions;
 mod ranks;
 mod right_order;
 
-// The array of the points. specs/Arrays.antt has its layout: field after field, 34 cells each.
+// The array of the points, field after field. specs/Arrays.antt has its layout.
 pub type PointArray = [u16; 517];
 
 // The points in both orders, or why there are none: the number of the first no, 0 for none.

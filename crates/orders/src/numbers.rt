@@ -34,7 +34,7 @@ fn write_sums(heights: &mut PointArray)
     }
 }
 
-// Every point weighs 1, in the first of its weight's four cells, and may be inside.
+// Every place weighs 1, in the first of its weight's four cells, and may be inside.
 fn write_alike(heights: &mut PointArray)
     requires { ⌜ length (now heights) ≡ 517 ⌝ }
     ensures { λ _. ⌜ BothWritten (λ i. 310 + i * 4) (λ i. 1) (λ i. 446 + i) (λ i. 1) 34 (now (heights .entry)) (now (heights .exit)) ⌝ }

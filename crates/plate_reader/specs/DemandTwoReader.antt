@@ -13,13 +13,13 @@ use Rattle.labeling.specs.Points.{Choice, outside, placed}
 use Rattle.labeling.specs.Marks.{Valid}
 use Rattle.labeling.specs.Best.{Agree, weightBelow, weight, count, oneEach}
 use Rattle.labeling.specs.Agree.{agree-sym, outside-agree, valid-agree}
-use Rattle.format.specs.Sheet.{pointCount, pointsOf, sheetNo}
+use Rattle.format.specs.Sheet.{pointCount, pointsOf, sheetNo, sheetLength}
 use Rattle.format.specs.Accepted.{Proper, Accepted, accepted, none-sheet}
 use Rattle.format.specs.Bytes.{dec-bytes}
 use Rattle.format.specs.Plate.{choiceOf, insideBelow, insideSection, pairs, outsideSection, plateOf}
 use Rattle.format.specs.PlateLength.{inside-length, inside-outside, plate-length}
 use Rattle.clash.specs.ClashPixels.{first-clash-right}
-use Rattle.plate_reader.specs.PlateQuestions.{sheetLength, sheetOf, insideCount, insideList, outsideCount, outsidePairs, pairsRight, plateNo, handedBack}
+use Rattle.plate_reader.specs.PlateQuestions.{sheetOf, insideCount, insideList, outsideCount, outsidePairs, pairsRight, plateNo, handedBack}
 use Rattle.plate_reader.specs.InsideList.{choice-of-list, inside-ascending}
 use Rattle.plate_reader.specs.PlateSections.{Fitting, Asked, none-plate, proper-same, start-same, start-accepted, sections, inside-counted, inside-read, outside-counted, Parts, read-back}
 

@@ -6,17 +6,13 @@ use Prim.Native.Nat.{ℕ, _+_, _*_}
 use lib.Dec.{ltb, eqb}
 use lib.ListN.{length, getD, take, drop}
 use Rattle.labeling.specs.Points.{Points, Choice, outside, placed}
-use Rattle.format.specs.Sheet.{pointCount, pointsOf, ask, thenNo, plateSheetNo}
+use Rattle.format.specs.Sheet.{pointCount, pointsOf, ask, thenNo, plateSheetNo, sheetLength}
 use Rattle.format.specs.Plate.{pairs, choiceOf}
 use Rattle.format.specs.Bytes.{sameBytes}
 use Rattle.clash.specs.FirstClash.{isClash, firstClash}
 
 -- THE SECTIONS: "the sheet's bytes; then the inside count and one byte for each inside position, ascending; then the outside count
 -- and, for each outside point from the highest row down, its position and its margin column, a byte each."
-
--- "A sheet has 10 + 6n bytes."
-abbrev pub sheetLength : List ℕ → ℕ
-sheetLength p = 10 + 6 * pointCount p
 
 -- The sheet's bytes.
 unfoldable pub sheetOf : List ℕ → List ℕ

@@ -11,14 +11,14 @@ use Rattle.labeling.specs.Points.{outside}
 use Rattle.labeling.specs.Tests.{not-both, Decides, dec-eq, dec-and, dec-true}
 use Rattle.labeling.specs.Best.{count, weight, weightBelow, oneEach}
 use Rattle.format.specs.Asking.{none-then}
-use Rattle.format.specs.Sheet.{twoBytes, pointCount, pointsOf}
+use Rattle.format.specs.Sheet.{twoBytes, pointCount, pointsOf, sheetLength}
 use Rattle.format.specs.Accepted.{Proper, Accepted, NoneOf, none-ask, none-left, none-plate-sheet}
 use Rattle.format.specs.Plate.{choiceOf, insideBelow}
 use Rattle.format.specs.PlateLength.{inside-length, inside-outside}
 use Rattle.clash.specs.declared.Clash.{Clash}
 use Rattle.clash.specs.declared.Clash.the-variants.{None, Between}
 use Rattle.clash.specs.FirstClash.{isClash, firstClash}
-use Rattle.plate_reader.specs.PlateQuestions.{sheetLength, sheetOf, insideCount, insideStart, insideList, outsideStart, outsideCount, outsidePairs, sectionsFit, ascending, pairsRight, sectionsNo, plateNo}
+use Rattle.plate_reader.specs.PlateQuestions.{sheetOf, insideCount, insideStart, insideList, outsideStart, outsideCount, outsidePairs, sectionsFit, ascending, pairsRight, sectionsNo, plateNo}
 use Rattle.plate_reader.specs.InsideList.{list-of-choice}
 
 -- THE QUESTIONS AS FACTS

@@ -14,9 +14,9 @@ ghost use mathlib.Core.Bool.{true};
 ghost use Prim.Native.Nat.{_+_, _≤_, _<_};
 ghost use lib.ListN.{length, getD, drop};
 ghost use Rattle.labeling.specs.Points.{before};
-ghost use Rattle.format.specs.Sheet.{pointsOf, plateSheetNo};
+ghost use Rattle.format.specs.Sheet.{pointsOf, plateSheetNo, sheetLength};
 ghost use Rattle.clash.specs.ChoiceFlags.{held};
-ghost use Rattle.plate_reader.specs.PlateQuestions.{sheetLength, sheetOf, insideCount, insideStart, insideList, outsideStart, outsidePairs, sectionsFit, belowFirst, ascending, sectionsNo, plateNo, handedBack, handedBackAt};
+ghost use Rattle.plate_reader.specs.PlateQuestions.{sheetOf, insideCount, insideStart, insideList, outsideStart, outsidePairs, sectionsFit, belowFirst, ascending, sectionsNo, plateNo, handedBack, handedBackAt};
 ghost use Rattle.plate_reader.specs.OutsideWalk.{outsidePoint, pairFollows, pairsAfter, pairsFollow};
 ghost use Rattle.plate_reader.specs.PlateAnswers.{plateOutcome, plateOutcomeOf};
 

@@ -1,23 +1,13 @@
-// What the programs that run a desk share: the parts of a script on standard input, and a line on standard output for each call.
+// What the programs that run a desk share: a call, and its line on standard output.
 ghost use mathlib.Core.Path.{_≡_};
-ghost use Prim.Native.Nat.{_≤_};
-ghost use lib.ListN.{length, replicate};
+ghost use lib.ListN.{replicate};
 ghost use Rattle.desk.specs.Desk.{loadOf, markOf};
-ghost use Rattle.session.specs.Parts.{Fits};
 use clash::ClashKind;
 use desk::Desk;
 use desk::LoadAnswer;
 use desk::MarkAnswer;
 use desk::Verdict;
-use libc::STDIN_FILENO;
 use libc::STDOUT_FILENO;
-
-// What a script has next: a part, whose bytes fill the first bytes of the buffer; what is none; or its end.
-pub enum Part {
-    Of { kind: u8, length: u16 },
-    Bad,
-    End,
-}
 
 fn print_word(word: &[u8]) {
     io::write_all(STDOUT_FILENO, word);
@@ -38,8 +28,6 @@ fn print_refusal(number: u8) {
     print_number(number as u64);
     end_line();
 }
-
-// THE DESK
 
 // Point count and best count of the desk's sheet.
 fn print_loaded(desk: Desk) {
@@ -108,49 +96,4 @@ pub fn run_mark(desk: Desk, list: &[u8]) -> Desk
         MarkAnswer::Refused(number) => print_refusal(number),
     }
     marked
-}
-
-// PARTS
-
-// The number in two bytes, low byte first.
-fn number_in(low: u8, high: u8) -> u16 {
-    low as u16 + 256 * high as u16
-}
-
-// Reads until the first n bytes of the buffer are filled; no where the input ends before.
-fn fill(buffer: &mut [u8], n: usize) -> bool
-    requires { ⌜ n ≤ length (now buffer) ⌝ }
-{
-    io::read_full(STDIN_FILENO, &mut buffer[..n]) == n
-}
-
-// Reads the next part: a kind byte, 1 to `kinds`; a two-byte length, low byte first; and that many bytes, no more than the buffer has.
-// What the bytes are stays open: they are the input's.
-pub fn next_part(buffer: &mut [u8], kinds: u8) -> Part
-    ensures { λ r. ⌜ Fits kinds (length (now (buffer .entry))) r ⌝ }
-{
-    let mut head = [0u8; 3];
-    let got = io::read_full(STDIN_FILENO, &mut head);
-    if got == 0 {
-        return Part::End;
-    }
-    if got < 3 {
-        return Part::Bad;
-    }
-    let kind = head[0];
-    if kind == 0 {
-        return Part::Bad;
-    }
-    if kinds < kind {
-        return Part::Bad;
-    }
-    let length = number_in(head[1], head[2]);
-    let n = length as usize;
-    if buffer.len() < n {
-        return Part::Bad;
-    }
-    if !fill(buffer, n) {
-        return Part::Bad;
-    }
-    Part::Of { kind, length }
 }

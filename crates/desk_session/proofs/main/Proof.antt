@@ -21,11 +21,11 @@ new-requires c κs = search needs
 loop-holds : tie.Need-loop-holds Inv-loop μ-loop
 loop-holds c = search needs
 
-slice-aggregate-next-part : tie.Need-slice-aggregate-next-part Inv-loop μ-loop
-slice-aggregate-next-part c = search needs
+slice-aggregate-read-call : tie.Need-slice-aggregate-read-call Inv-loop μ-loop
+slice-aggregate-read-call c = search needs
 
-next-part-requires : tie.Need-next-part-requires Inv-loop μ-loop
-next-part-requires c κs = search needs
+read-call-requires : tie.Need-read-call-requires Inv-loop μ-loop
+read-call-requires c κs = search needs
 
 enum-known-kind : tie.Need-enum-known-kind Inv-loop μ-loop
 enum-known-kind c = search needs
@@ -81,8 +81,8 @@ main-spec =
     large-buffer-requires
     new-requires
     loop-holds
-    slice-aggregate-next-part
-    next-part-requires
+    slice-aggregate-read-call
+    read-call-requires
     enum-known-kind
     cast-n
     array-share-prefix-buffer

@@ -4,7 +4,8 @@ use mathlib.Core.Path.{_≡_, ap}
 use Prim.Native.Nat.{_-_}
 use lib.ListN.{take}
 use native.Mathlib.Omega.{arith}
-use Rattle.plate_reader.specs.PlateQuestions.{sheetLength, sheetOf}
+use Rattle.format.specs.Sheet.{sheetLength}
+use Rattle.plate_reader.specs.PlateQuestions.{sheetOf}
 use Rattle.plate_reader.proofs.sheet_part.Statement.{statement}
 use Rattle.plate_reader.proofs.sheet_part.Tie as tie
 

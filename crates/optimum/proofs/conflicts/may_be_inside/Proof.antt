@@ -33,11 +33,11 @@ returns-4 c = ends-above (c .before .before .before .before .before .before .bef
 returns-5 : tie.Need-returns-5
 returns-5 c = good-alone (c .before .before .before .before .before .before .before .before .before .before .before .before .pre .0 .sorted) (c .before .before .before .before .before .before .before .before .before .before .before .before .pre .1) (sym (c .before .before .before .before .before .before .before .before .before .before .before .allowed-at .ensures) ∙ not-false _ (c .before .before .before .before .before .before .before .before .before .before .if1 .left)) _ (c .before .before .before .before .before .before .before .before .before .low-at .ensures) (c .before .before .before .before .before .before .before .if2 .left) _ (c .before .before .before .before .before .before .high-at .ensures) (c .before .before .before .before .if3 .left) (sym (c .before .before .before .ends-below .ensures) ∙ not-false _ (c .before .before .if4 .left)) (c .if5 .taken)
 
-labels-meet-requires : tie.Need-labels-meet-requires
-labels-meet-requires c κs = search needs
+labels-overlap-requires : tie.Need-labels-overlap-requires
+labels-overlap-requires c κs = search needs
 
 returns-6 : tie.Need-returns-6
-returns-6 c = good-beside (c .before .before .before .before .before .before .before .before .before .before .before .before .before .pre .0 .sorted) (c .before .before .before .before .before .before .before .before .before .before .before .before .before .pre .1) (sym (c .before .before .before .before .before .before .before .before .before .before .before .before .allowed-at .ensures) ∙ not-false _ (c .before .before .before .before .before .before .before .before .before .before .before .if1 .left)) _ (c .before .before .before .before .before .before .before .before .before .before .low-at .ensures) (c .before .before .before .before .before .before .before .before .if2 .left) _ (c .before .before .before .before .before .before .before .high-at .ensures) (c .before .before .before .before .before .if3 .left) (sym (c .before .before .before .before .ends-below .ensures) ∙ not-false _ (c .before .before .before .if4 .left)) (c .before .if5 .left) _ (c .labels-meet .ensures)
+returns-6 c = good-beside (c .before .before .before .before .before .before .before .before .before .before .before .before .before .pre .0 .sorted) (c .before .before .before .before .before .before .before .before .before .before .before .before .before .pre .1) (sym (c .before .before .before .before .before .before .before .before .before .before .before .before .allowed-at .ensures) ∙ not-false _ (c .before .before .before .before .before .before .before .before .before .before .before .if1 .left)) _ (c .before .before .before .before .before .before .before .before .before .before .low-at .ensures) (c .before .before .before .before .before .before .before .before .if2 .left) _ (c .before .before .before .before .before .before .before .high-at .ensures) (c .before .before .before .before .before .if3 .left) (sym (c .before .before .before .before .ends-below .ensures) ∙ not-false _ (c .before .before .before .if4 .left)) (c .before .if5 .left) _ (c .labels-overlap .ensures)
 
 pub may-be-inside-spec : {M : Type 1} → statement M
 may-be-inside-spec =
@@ -52,5 +52,5 @@ may-be-inside-spec =
     ends-below-requires
     returns-4
     returns-5
-    labels-meet-requires
+    labels-overlap-requires
     returns-6)

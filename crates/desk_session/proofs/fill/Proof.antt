@@ -1,9 +1,9 @@
--- `session::fill` meets its contract. Assumes nothing.
+-- `desk_session::fill` meets its contract. Assumes nothing.
 use borrow.Author.Needs.{needs}
 use mathlib.Core.Path.{sym}
 use lib.Seq.{length-take-le}
-use Rattle.session.proofs.fill.Statement.{statement}
-use Rattle.session.proofs.fill.Tie as tie
+use Rattle.desk_session.proofs.fill.Statement.{statement}
+use Rattle.desk_session.proofs.fill.Tie as tie
 
 slice-relend-prefix-read-full : tie.Need-slice-relend-prefix-read-full
 slice-relend-prefix-read-full c = search needs
