@@ -13,7 +13,9 @@ pub mod Only
 pub mod Looks
 pub mod Recurrence
 pub mod RecurrenceTests
+pub mod Joins
 pub mod States
+pub mod Safe
 pub mod NoBetter
 pub mod Recovered
 pub mod Reached

@@ -1,13 +1,16 @@
--- A choice that follows the recovery weighs the value of the state.
+-- A choice that follows the recovery weighs the value of the state; and what the recovery does down to a cut.
 -- Assumes nothing.
-use mathlib.Core.Path.{_≡_, refl, _∙_, ap}
-use mathlib.Core.Bool.{Bool, true, false}
-use Prim.Native.Nat.{ℕ, zero, suc, _≤_, _<_}
-use borrow.Author.Tests.{ltb-true, ltb-false, lt-ltb, le-ltb, eq-eqb, ne-eqb}
+use mathlib.Core.Path.{_≡_, refl, sym, _∙_, ap}
+use mathlib.Core.Bool.{Bool, true, false, _&&_, _||_}
+use Prim.Native.Nat.{ℕ, zero, suc, _+_, _≤_, _<_}
+use lib.Dec.{ltb, leb}
+use borrow.Author.Tests.{ltb-true, ltb-false, lt-ltb, le-ltb, le-leb, lt-leb, eq-eqb, ne-eqb}
 use native.Mathlib.Omega.{arith}
-use Rattle.labeling.specs.Tests.{decide, or-left}
-use Rattle.labeling.specs.Recurrence.{Heights, Sorted, between, reach, value, outValue, inValue, takesIn, recovered, openWeight}
-use Rattle.labeling.specs.RecurrenceTests.{dec-between, CanOut, CanIn, value-zero, value-skip, value-step, out-of, out-is, in-of, in-is, recovered-skip, recovered-in, recovered-out, open-zero, open-skip, open-out, open-in}
+use Rattle.labeling.specs.Tests.{decide, same, or-left, or-true, or-false, and-false}
+use Rattle.labeling.specs.Recurrence.{Heights, Point, Sorted, between, reach, value, outValue, inValue, takesIn, recovered, openWeight}
+use Rattle.labeling.specs.RecurrenceTests.{less, dec-between, CanOut, CanIn, value-zero, value-skip, value-step, out-of, out-is, in-of, in-is, recovered-skip, recovered-in, recovered-out, open-zero, open-skip, open-out, open-in}
+use Rattle.labeling.specs.States.{rank-is}
+use Rattle.labeling.specs.Totals.{ltb-next}
 use Rattle.labeling.specs.NoBetter.{open-split}
 
 -- j is open: strictly between a and b, and of rank less than t.
@@ -105,3 +108,55 @@ weighs {H} L S (suc t) a b q l y f =
     let o = taken-out L l f e m in
     omega (arith, ih₁, ih₂, open-out H S t a b o, open-split H S t a b p o (dec-between a p b .is e), out-of H t a b q (g .0), g .1)))
     (λ e. omega (arith, open-skip H S t a b e, weighs L S t a b q (omega arith) (omega (arith, value-skip H t a b q e)) (follow-skip L l f e), value-skip H t a b q e))
+
+-- DOWN TO A CUT: the recovery takes in every point between a and b of rank k or more, and less than u.
+pub record TakesDown (H : Heights) (k u a b q : ℕ) : Type 0 where
+  pub takes : (t : ℕ) → k ≤ t → t < u → between a (H .atRank t) b ≡ true → takesIn H t a b q ≡ true
+
+fewer : {H : Heights} {k u a b q : ℕ} → TakesDown H k (suc u) a b q → TakesDown H k u a b q
+fewer f = record { takes = λ t l m. f .takes t l (omega arith) }
+
+-- A state that has a choice has one with these inside.
+pub value-down : {H : Heights} {k a b q : ℕ} (u : ℕ) → k ≤ u → TakesDown H k u a b q → 1 ≤ value H u a b q → 1 ≤ value H k a b q
+value-down {H} {k} {a} {b} {q} zero l f y = let z : k ≡ 0 = omega arith in rw z y
+value-down {H} {k} {a} {b} {q} (suc u) l f y =
+    same k (suc u) (λ z. rw z y)
+    (λ ne. value-down u (omega arith) (fewer f)
+    (decide (between a (H .atRank u) b)
+    (λ e. takes-in y e (f .takes u (omega arith) (omega arith) e) .0 .rest)
+    (λ e. rw (value-skip H u a b q e) at y)))
+
+-- It puts just these inside, and those that it does of the others.
+abbrev pub Down : (H : Heights) (k u a b q i : ℕ) → Type 0
+Down H k u a b q i = recovered H u a b q i ≡ (recovered H k a b q i || (between a i b && (leb k (H .rank i) && ltb (H .rank i) u)))
+
+module _ {H : Heights} (L : Sorted H) (k a b q : ℕ) {i : ℕ} (x : Point H i) where
+  -- none,
+  down-none : (u : ℕ) → u ≡ k → Down H k u a b q i
+  down-none u z =
+      let none : (leb k (H .rank i) && ltb (H .rank i) k) ≡ false = less (H .rank i) k
+      (λ l. rw (lt-leb k (H .rank i) l))
+      (λ l. rw (le-leb k (H .rank i) l, le-ltb (H .rank i) k l)) in
+      rw (z, none, and-false (between a i b)) (sym (or-false (recovered H k a b q i)))
+
+  -- or one more.
+  down-next : (u : ℕ) → k ≤ u → u < H .n → (between a (H .atRank u) b ≡ true → takesIn H u a b q ≡ true) → Down H k u a b q i → Down H k (suc u) a b q i
+  down-next u l m f ih =
+      let p = H .atRank u in
+      let r : H .rank p ≡ u = L .rank-atRank u m in
+      same i p
+      (λ y. decide (between a p b)
+      (λ e. recovered-in H u a b q i e (f e) ∙ rw (eq-eqb i p y, y, e, le-leb k (H .rank p) (omega arith), lt-ltb (H .rank p) (suc u) (omega arith)) (sym (or-true (recovered H k a b q p))))
+      (λ e. recovered-skip H u a b q i e ∙ (ih ∙ rw (y, e))))
+      (λ ne.
+      let nr : H .rank i ≡ u → ⊥ = λ y. ne (rank-is L u i x y) in
+      rw (ltb-next (H .rank i) u nr)
+      (decide (between a p b)
+      (λ e. recovered-in H u a b q i e (f e) ∙ (rw (ne-eqb i p ne) ih))
+      (λ e. recovered-skip H u a b q i e ∙ ih)))
+
+  pub recovered-down : (u : ℕ) → k ≤ u → u ≤ H .n → TakesDown H k u a b q → Down H k u a b q i
+  recovered-down zero l m f = down-none zero (omega arith)
+  recovered-down (suc u) l m f =
+      same k (suc u) (λ z. down-none (suc u) (sym z))
+      (λ ne. down-next u (omega arith) (omega arith) (f .takes u (omega arith) (omega arith)) (recovered-down u (omega arith) (omega arith) (fewer f)))

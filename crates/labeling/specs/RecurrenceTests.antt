@@ -84,6 +84,12 @@ greatest-most f (suc m) i u e =
     decide (f (suc m)) (λ k. rw k u)
     (λ k. rw k (greatest-most f m i (same i (suc m) (λ z. absurd (not-both e (rw z k))) (λ z. omega arith)) e))
 
+-- Two tests that agree on 1 to m have the same greatest.
+pub greatest-same : (f g : ℕ → Bool) (m : ℕ) → ((i : ℕ) → 1 ≤ i → i ≤ m → f i ≡ g i) → greatest f m ≡ greatest g m
+unfolding greatest
+greatest-same f g zero e = refl
+greatest-same f g (suc m) e = rw (e (suc m) (omega arith) (omega arith), greatest-same f g m (λ i k l. e i k (omega arith)))
+
 -- THE TESTS OF RECURRENCE.ANTT
 
 -- p is strictly between a and b.

@@ -54,6 +54,22 @@ module _ {H : Heights} (L : Sorted H) where
     near = omega (arith, o .right, L .columns k p pk pp s);
   }
 
+  -- A label that reaches over p overlaps p's,
+  pub reaches-overlaps : (p i : ℕ) → Point H p → Reaches H p i → Overlap H p i
+  reaches-overlaps p i pp k =
+      let pi : Point H i = record { low = k .low; high = omega (arith, k .high, pp .high) } in
+      record { left = omega (arith, k .right); right = k .near; below = k .over; above = omega (arith, L .rows i p pi pp (k .high), L .h-pos) }
+
+  -- and is right of p.
+  pub reaches-right : (p i : ℕ) → Point H p → Reaches H p i → H .rank p < H .rank i
+  reaches-right p i pp k =
+      let pi : Point H i = record { low = k .low; high = omega (arith, k .high, pp .high) } in
+      right-of (H .rank p) i (L .rank-below p pp) pi (rw (L .atRank-rank p pp) (k .right))
+
+  -- A label below p and right of p that overlaps p's reaches over p.
+  pub overlap-right-reaches : (p i : ℕ) → Point H p → Point H i → i < p → H .rank p < H .rank i → Overlap H p i → Reaches H p i
+  overlap-right-reaches p i pp pi l r o = record { low = pi .low; high = l; over = o .below; right = L .ties p i pp pi r l; near = o .right }
+
   -- Two labels that reach over p overlap.
   pub two-overlap : (p i k : ℕ) → Point H p → Reaches H p i → Reaches H p k → Overlap H i k
   two-overlap p i k pp m n =
