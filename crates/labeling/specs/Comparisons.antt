@@ -1,4 +1,4 @@
--- The tests of the recurrence as comparisons with three numbers for each point, which a program finds once for all states.
+-- The tests of the recurrence as comparisons with two numbers for each point, which a program finds once for all states.
 -- Assumes nothing.
 use mathlib.Core.Path.{_≡_, refl, ap}
 use mathlib.Core.Bool.{Bool, true, cond, not, _&&_, _||_}
@@ -10,6 +10,7 @@ use native.Mathlib.Omega.{arith}
 use Rattle.labeling.specs.Tests.{decide, same, Decides, dec-lt, dec-le, dec-and, dec-not, dec-true}
 use Rattle.labeling.specs.Recurrence.{Heights, Point, Sorted, Overlap, overlaps, reachesOver, greatest, reachesAbove, reach, good}
 use Rattle.labeling.specs.RecurrenceTests.{less, dec-map, dec-unique, dec-if-le, dec-if-pos, greatest-le, greatest-is, greatest-most, Between, Good, dec-good, dec-overlaps, Reaches, dec-reaches, dec-above}
+use Rattle.labeling.specs.States.{reaches-overlaps, reaches-right, overlap-right-reaches}
 
 -- THE LEAST
 
@@ -70,34 +71,21 @@ greatest-unique f m r p q =
     (λ v. let l : 1 ≤ x = omega arith in absurd (omega (arith, q x (record { low = l; high = greatest-le f m; passes = greatest-is f m l }))))
     (λ v. omega arith))
 
--- THE THREE NUMBERS
-
--- j is below i, right of i, and its label overlaps that of i.
-unfoldable pub overlapsBelow : Heights → ℕ → ℕ → Bool
-overlapsBelow H i j = ltb j i && (ltb (H .rank i) (H .rank j) && overlaps H i j)
+-- THE TWO NUMBERS
 
 -- j is above i, right of i, and its label overlaps that of i.
 unfoldable pub overlapsAbove : Heights → ℕ → ℕ → Bool
 overlapsAbove H i j = ltb i j && (ltb (H .rank i) (H .rank j) && overlaps H i j)
 
--- The greatest j below i that is right of i and overlaps it, 0 if none.
-unfoldable pub lowOf : Heights → ℕ → ℕ
-lowOf H i = greatest (overlapsBelow H i) (H .n)
-
--- The least such j above i, n + 1 if none.
+-- The least point above i that is right of i and overlaps it, n + 1 if none.
 unfoldable pub highOf : Heights → ℕ → ℕ
 highOf H i = least (overlapsAbove H i) (suc (H .n)) (H .n)
 
--- The topmost point whose label reaches over p, 0 if none.
+-- The topmost point whose label reaches over p, 0 if none: the greatest point below p that is right of p and overlaps it.
 unfoldable pub topOf : Heights → ℕ → ℕ
 topOf H p = greatest (reachesOver H p) (H .n)
 
 module _ (H : Heights) where
-  -- `overlapsBelow` tests this.
-  pub dec-low : (i j : ℕ) → Decides (overlapsBelow H i j) ((j < i) × ((H .rank i < H .rank j) × Overlap H i j))
-  unfolding overlapsBelow
-  dec-low i j = dec-and (dec-lt _ _) (dec-and (dec-lt _ _) (dec-overlaps H i j))
-
   -- `overlapsAbove` tests this.
   pub dec-high : (i j : ℕ) → Decides (overlapsAbove H i j) ((i < j) × ((H .rank i < H .rank j) × Overlap H i j))
   unfolding overlapsAbove
@@ -141,22 +129,6 @@ module _ (H : Heights) where
           let k = dec-above H a p r .is (greatest-is (reachesAbove H a p) p (omega arith)) in
           absurd (omega (arith, back, k .0)))
 
-  -- No point above a and below i is right of i and overlaps it, exactly if low is at most a.
-  pub low-iff : (i a : ℕ) → (lowOf H i ≤ a) ↔ ((j : ℕ) → Point H j → a < j → j < i → H .rank i < H .rank j → Overlap H i j → ⊥)
-  unfolding lowOf
-  low-iff i a = (
-    λ l j k u v r o. omega (arith, greatest-most (overlapsBelow H i) (H .n) j (k .high) (dec-low i j .of (v, (r, o)))),
-    λ f. less a x
-        (λ u.
-        let k : Point H x = record { low = omega arith; high = greatest-le (overlapsBelow H i) (H .n) } in
-        let y = dec-low i x .is (greatest-is (overlapsBelow H i) (H .n) (k .low)) in
-        absurd (f x k u (y .0) (y .1 .0) (y .1 .1)))
-        (λ u. u),
-  )
-    where
-      x : ℕ
-      x = greatest (overlapsBelow H i) (H .n)
-
   -- No point above i and below b is right of i and overlaps it, exactly if high is at least b.
   pub high-iff : (i b : ℕ) → b ≤ suc (H .n) → (b ≤ highOf H i) ↔ ((j : ℕ) → Point H j → i < j → j < b → H .rank i < H .rank j → Overlap H i j → ⊥)
   unfolding highOf
@@ -174,8 +146,24 @@ module _ (H : Heights) where
       x = least (overlapsAbove H i) (suc (H .n)) (H .n)
 
 module _ {H : Heights} (L : Sorted H) where
+  -- No point above a and below i is right of i and overlaps it, exactly if top is at most a.
+  pub top-iff : (i a : ℕ) → Point H i → (topOf H i ≤ a) ↔ ((j : ℕ) → Point H j → a < j → j < i → H .rank i < H .rank j → Overlap H i j → ⊥)
+  unfolding topOf
+  top-iff i a p = (
+    λ l j k u v r o. omega (arith, greatest-most (reachesOver H i) (H .n) j (k .high) (dec-reaches H i j .of (overlap-right-reaches L i j p k v r o))),
+    λ f. less a x
+        (λ u.
+        let k : Point H x = record { low = omega arith; high = greatest-le (reachesOver H i) (H .n) } in
+        let y = dec-reaches H i x .is (greatest-is (reachesOver H i) (H .n) (k .low)) in
+        absurd (f x k u (y .high) (reaches-right L i x p y) (reaches-overlaps L i x p y)))
+        (λ u. u),
+  )
+    where
+      x : ℕ
+      x = greatest (reachesOver H i) (H .n)
+
   -- WHETHER THE POINT OF RANK t IS GOOD, by comparisons.
-  pub good-compared : (t a b q : ℕ) → t < H .n → Between a (H .atRank t) b → b ≤ suc (H .n) → good H t a b q ≡ (H .allowed (H .atRank t) && (leb (lowOf H (H .atRank t)) a && (leb b (highOf H (H .atRank t)) && ((ltb (H .n) b || leb (H .row (H .atRank t) + H .h) (H .row b)) && (eqb q 0 || not (overlaps H (H .atRank t) q))))))
+  pub good-compared : (t a b q : ℕ) → t < H .n → Between a (H .atRank t) b → b ≤ suc (H .n) → good H t a b q ≡ (H .allowed (H .atRank t) && (leb (topOf H (H .atRank t)) a && (leb b (highOf H (H .atRank t)) && ((ltb (H .n) b || leb (H .row (H .atRank t) + H .h) (H .row b)) && (eqb q 0 || not (overlaps H (H .atRank t) q))))))
   good-compared t a b q l k m =
       dec-unique (dec-good H t a b q)
       (dec-map there back (dec-and (dec-true _) (dec-and (dec-le _ _) (dec-and (dec-le _ _) (dec-and (dec-if-le (H .n) b (dec-le _ _)) (dec-if-pos q (dec-not (dec-overlaps H p q))))))))
@@ -187,7 +175,7 @@ module _ {H : Heights} (L : Sorted H) where
       e = L .rank-atRank t l
 
       Compared : Type 0
-      Compared = (H .allowed p ≡ true) × ((lowOf H p ≤ a) × ((b ≤ highOf H p) × ((b ≤ H .n → H .row p + H .h ≤ H .row b) × (1 ≤ q → Overlap H p q → ⊥))))
+      Compared = (H .allowed p ≡ true) × ((topOf H p ≤ a) × ((b ≤ highOf H p) × ((b ≤ H .n → H .row p + H .h ≤ H .row b) × (1 ≤ q → Overlap H p q → ⊥))))
 
       there : Compared → Good H t a b q
       there x = record {
@@ -195,7 +183,7 @@ module _ {H : Heights} (L : Sorted H) where
         top = x .1 .1 .1 .0;
         label = x .1 .1 .1 .1;
         others = λ j pj u v r o. less j p
-            (λ y. low-iff H p a .0 (x .1 .0) j pj u y (omega (arith, e)) o)
+            (λ y. top-iff p a (L .atRank-point t l) .0 (x .1 .0) j pj u y (omega (arith, e)) o)
             (λ y. let ne : j ≡ p → ⊥ = λ z. omega (arith, e, ap (H .rank) z) in high-iff H p b m .0 (x .1 .1 .0) j pj (omega arith) v (omega (arith, e)) o);
       }
 
@@ -203,7 +191,7 @@ module _ {H : Heights} (L : Sorted H) where
       back g = (
         g .allowed,
         (
-          low-iff H p a .1 (λ j pj u v r o. g .others j pj u (omega (arith, k .high)) (omega (arith, e)) o),
+          top-iff p a (L .atRank-point t l) .1 (λ j pj u v r o. g .others j pj u (omega (arith, k .high)) (omega (arith, e)) o),
           (
             high-iff H p b m .1 (λ j pj u v r o. g .others j pj (omega (arith, k .low)) v (omega (arith, e)) o),
             (g .top, g .label),

@@ -5,11 +5,13 @@ use mathlib.Core.Bool.{Bool, true, false, not, _&&_, _||_}
 use Prim.Native.Nat.{ℕ, suc, _+_, _≤_, _<_}
 use lib.Dec.{ltb, leb, eqb}
 use native.Mathlib.Omega.{arith}
-use borrow.Author.Tests.{lt-ltb, le-ltb, le-leb, lt-leb, eq-eqb, ne-eqb}
-use Rattle.labeling.specs.Tests.{same}
+use borrow.Author.Tests.{lt-ltb, le-ltb, le-leb, lt-leb, leb-true, eq-eqb, ne-eqb}
+use Rattle.labeling.specs.Tests.{same, not-both}
 use Rattle.labeling.specs.Recurrence.{Heights, Point, Sorted, overlaps, reachesOver, reach, good, clear}
-use Rattle.labeling.specs.RecurrenceTests.{dec-false, dec-reaches, Between}
-use Rattle.labeling.specs.Comparisons.{lowOf, highOf, topOf, reach-top, good-compared}
+use Rattle.labeling.specs.RecurrenceTests.{less, dec-false, Reaches, dec-reaches, Between}
+use Rattle.labeling.specs.Safe.{unreached, dec-unreached}
+use Rattle.labeling.specs.Comparisons.{highOf, topOf, reach-top, good-compared}
+use Rattle.optimum.specs.Limits.{labelBelow}
 
 -- Two stretches of length d, from x and from y on, meet.
 unfoldable pub near : ℕ → ℕ → ℕ → Bool
@@ -107,7 +109,7 @@ module _ (H : Heights) (a p q : ℕ) (k : Point H p) where
 -- WHO MAY BE INSIDE
 
 module _ {H : Heights} (L : Sorted H) {a b q p : ℕ} (x : Candidate H a b q p) where
-  good-is : good H (H .rank p) a b q ≡ (H .allowed p && (leb (lowOf H p) a && (leb b (highOf H p) && (endsBelow H p b && (eqb q 0 || not (overlaps H p q))))))
+  good-is : good H (H .rank p) a b q ≡ (H .allowed p && (leb (topOf H p) a && (leb b (highOf H p) && (endsBelow H p b && (eqb q 0 || not (overlaps H p q))))))
   unfolding endsBelow
   good-is =
       let e : H .atRank (H .rank p) ≡ p = L .atRank-rank p (x .point) in
@@ -118,20 +120,65 @@ module _ {H : Heights} (L : Sorted H) {a b q p : ℕ} (x : Candidate H a b q p) 
   not-allowed e = sym (good-is ∙ rw e)
 
   module _ (e : H .allowed p ≡ true) where
-    pub too-low : (low : ℕ) → low ≡ lowOf H p → a < low → false ≡ good H (H .rank p) a b q
-    too-low low z l = sym (good-is ∙ rw (e, ← z, lt-leb low a l))
+    pub too-low : (top : ℕ) → top ≡ topOf H p → a < top → false ≡ good H (H .rank p) a b q
+    too-low top z l = sym (good-is ∙ rw (e, ← z, lt-leb top a l))
 
-    module _ (low : ℕ) (z : low ≡ lowOf H p) (l : low ≤ a) where
+    module _ (top : ℕ) (z : top ≡ topOf H p) (l : top ≤ a) where
       pub too-high : (high : ℕ) → high ≡ highOf H p → high < b → false ≡ good H (H .rank p) a b q
-      too-high high y u = sym (good-is ∙ rw (e, ← z, le-leb low a l, ← y, lt-leb b high u))
+      too-high high y u = sym (good-is ∙ rw (e, ← z, le-leb top a l, ← y, lt-leb b high u))
 
       module _ (high : ℕ) (y : high ≡ highOf H p) (u : b ≤ high) where
         pub ends-above : endsBelow H p b ≡ false → false ≡ good H (H .rank p) a b q
-        ends-above f = sym (good-is ∙ rw (e, ← z, le-leb low a l, ← y, le-leb b high u, f))
+        ends-above f = sym (good-is ∙ rw (e, ← z, le-leb top a l, ← y, le-leb b high u, f))
 
         module _ (f : endsBelow H p b ≡ true) where
           pub good-alone : q ≡ 0 → true ≡ good H (H .rank p) a b q
-          good-alone g = sym (good-is ∙ rw (e, ← z, le-leb low a l, ← y, le-leb b high u, f, eq-eqb q 0 g))
+          good-alone g = sym (good-is ∙ rw (e, ← z, le-leb top a l, ← y, le-leb b high u, f, eq-eqb q 0 g))
 
           pub good-beside : (q ≡ 0 → ⊥) → (meet : Bool) → meet ≡ overlaps H p q → not meet ≡ good H (H .rank p) a b q
-          good-beside g meet o = sym (good-is ∙ rw (e, ← z, le-leb low a l, ← y, le-leb b high u, f, ne-eqb q 0 g, o))
+          good-beside g meet o = sym (good-is ∙ rw (e, ← z, le-leb top a l, ← y, le-leb b high u, f, ne-eqb q 0 g, o))
+
+-- HOW FAR A LABEL REACHES
+
+-- The label of p reaches over no point between p and y, which is one of the points above p, or b.
+pub record Climbing (H : Heights) (p b y : ℕ) : Type 0 where
+  pub low : p < y
+  pub high : y ≤ b
+  pub none : (z : ℕ) → p < z → z < y → Reaches H z p → ⊥
+
+pub climbing-first : (H : Heights) (p b : ℕ) → p < b → Climbing H p b (p + 1)
+climbing-first H p b l = record { low = omega arith; high = omega arith; none = λ z m n. absurd (omega arith) }
+
+module _ {H : Heights} (L : Sorted H) {p b y : ℕ} (pos : 1 ≤ p) (upper : b ≤ suc (H .n)) (x : Climbing H p b y) where
+  -- It ends below y, and so below all points above y.
+  pub climbing-below : y < b → labelBelow H p y ≡ true → true ≡ unreached H p b
+  unfolding labelBelow
+  climbing-below l e =
+      let ends : H .row p + H .h ≤ H .row y = leb-true _ _ e in
+      sym (dec-unreached H p b upper .of (record {
+        none = λ z m n r. less z y
+            (λ u. x .none z m u r)
+            (λ u.
+            let up : H .row y ≤ H .row z = same z y
+            (λ v. rw v (omega arith))
+            (λ ne. L .rows y z (record { low = omega (arith, x .low); high = omega arith }) (record { low = omega arith; high = omega arith }) (omega arith)) in
+            omega (arith, r .over));
+      }))
+
+  -- It reaches over y,
+  pub climbing-reached : y < b → reachesOver H y p ≡ true → false ≡ unreached H p b
+  climbing-reached l e = sym (dec-false (dec-unreached H p b upper) (λ f. f .none y (x .low) l (dec-reaches H y p .is e)))
+
+  -- or not;
+  pub climbing-next : y < b → reachesOver H y p ≡ false → Climbing H p b (y + 1)
+  climbing-next l e = record {
+    low = omega (arith, x .low);
+    high = omega arith;
+    none = λ z m n r. same z y
+        (λ v. not-both (dec-reaches H y p .of (rw v at r)) e)
+        (λ ne. x .none z m (omega arith) r);
+  }
+
+  -- or y is b.
+  pub climbing-last : b ≤ y → true ≡ unreached H p b
+  climbing-last l = sym (dec-unreached H p b upper .of (record { none = λ z m n r. x .none z m (omega arith) r }))

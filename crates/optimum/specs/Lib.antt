@@ -4,11 +4,12 @@ pub mod Chosen
 pub mod Places
 pub mod Packed
 pub mod Words
-pub mod Entry
+pub mod Slabs
 pub mod Conflicts
 pub mod Table
+pub mod Memo
 pub mod Steps
-pub mod Filling
+pub mod Running
 pub mod Recovery
 pub mod SameHeights
 pub mod Limits

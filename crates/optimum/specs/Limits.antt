@@ -1,4 +1,4 @@
--- Low, high and top: how loops find them, and that writing them leaves the points as they are. Assumes nothing.
+-- Top and high of a point: how loops find them, and that writing them leaves the points as they are. Assumes nothing.
 use mathlib.Core.Path.{_≡_, refl, sym, _∙_, ap}
 use mathlib.Core.Bool.{Bool, true, false, _&&_}
 use mathlib.Core.List.{List}
@@ -11,9 +11,9 @@ use borrow.Author.Tests.{leb-true, leb-false}
 use Rattle.labeling.specs.Tests.{same, not-both, Decides, dec-and, dec-le, dec-lt}
 use Rattle.labeling.specs.Recurrence.{Heights, Point, Sorted, Overlap, reachesOver, greatest}
 use Rattle.labeling.specs.RecurrenceTests.{less, dec-unique, dec-map, Reaches, dec-reaches}
-use Rattle.labeling.specs.Comparisons.{least, Passes, greatest-unique, least-unique, overlapsBelow, overlapsAbove, lowOf, highOf, topOf, dec-low, dec-high}
+use Rattle.labeling.specs.Comparisons.{least, Passes, greatest-unique, least-unique, overlapsAbove, highOf, topOf, dec-high}
 use Rattle.orders.specs.Arrays.{weightAt, heightsOf, positionAt}
-use Rattle.optimum.specs.SameHeights.{SameHeights, greatest-same, sorted-same, high-same, top-same}
+use Rattle.optimum.specs.SameHeights.{SameHeights, sorted-same, high-same, top-same}
 
 -- DOWN TO THE GREATEST, UP TO THE LEAST
 
@@ -69,28 +69,6 @@ module _ {H : Heights} (L : Sorted H) where
   ranks-apart i j p q ne e = ne (sym (L .atRank-rank i p) ∙ (ap (H .atRank) e ∙ L .atRank-rank j q))
 
   module _ (i : ℕ) (p : Point H i) where
-    -- LOW IS TOP: a point below i that is right of i overlaps it exactly if its label reaches over i.
-    low-top : lowOf H i ≡ topOf H i
-    unfolding lowOf topOf
-    low-top =
-        greatest-same (overlapsBelow H i) (reachesOver H i) (H .n)
-        (λ j l u. dec-unique (dec-low H i j) (dec-map (back j l u) (there j l u) (dec-reaches H i j)))
-      where
-        there : (j : ℕ) → 1 ≤ j → j ≤ H .n → (j < i) × ((H .rank i < H .rank j) × Overlap H i j) → Reaches H i j
-        there j l u x =
-            let q : Point H j = record { low = l; high = u } in
-            record { low = l; high = x .0; over = x .1 .1 .below; right = L .ties i j p q (x .1 .0) (x .0); near = x .1 .1 .right }
-
-        back : (j : ℕ) → 1 ≤ j → j ≤ H .n → Reaches H i j → (j < i) × ((H .rank i < H .rank j) × Overlap H i j)
-        back j l u x =
-            let q : Point H j = record { low = l; high = u } in
-            let r = x .right in
-            let v = x .high in
-            let ne = ranks-apart i j p q (λ e. omega arith) in
-            let k : H .rank i < H .rank j = less (H .rank i) (H .rank j) (λ a. a) (λ a. absurd (omega (arith, L .columns j i q p (omega arith)))) in
-            let y = L .rows j i q p v in
-            (v, (k, record { left = omega arith; right = x .near; below = x .over; above = omega (arith, L .h-pos) }))
-
     -- What the loops for the point i know at j: below i for top, above i for high.
     module _ {j : ℕ} where
       module _ (l : 1 ≤ j) (u : j < i) (a : AtMost (reachesOver H i) (H .n) j) where
@@ -190,37 +168,37 @@ high-none H i j l a = least-none a l
 
 -- Few points in both orders.
 pub record InOrder (s : List ℕ) : Type 0 where
-  pub long : length s ≡ 517
+  pub long : length s ≡ 483
   pub few : heightsOf s .n ≤ 32
   pub sorted : Sorted (heightsOf s)
 
--- Only cells of low, high and top differ.
+-- Only cells of top and high differ.
 pub record Kept (s r : List ℕ) : Type 0 where
   pub long : length r ≡ length s
-  pub cell : (c : ℕ) → (136 ≤ c → c < 238 → ⊥) → getD r c 0 ≡ getD s c 0
+  pub cell : (c : ℕ) → (136 ≤ c → c < 204 → ⊥) → getD r c 0 ≡ getD s c 0
 
 module _ {s r : List ℕ} (K : Kept s r) where
   pub kept-position : (i : ℕ) → i < 34 → positionAt r i ≡ positionAt s i
   unfolding positionAt
-  kept-position i l = K .cell (480 + i) (λ a b. omega arith)
+  kept-position i l = K .cell (446 + i) (λ a b. omega arith)
 
   pub kept-same : heightsOf s .n ≤ 32 → SameHeights (heightsOf s) (heightsOf r)
   unfolding heightsOf weightAt
   kept-same few = record {
     few = few;
-    n = K .cell 514 (λ a b. omega arith);
-    w = K .cell 515 (λ a b. omega arith);
-    h = K .cell 516 (λ a b. omega arith);
+    n = K .cell 480 (λ a b. omega arith);
+    w = K .cell 481 (λ a b. omega arith);
+    h = K .cell 482 (λ a b. omega arith);
     column = λ i l. K .cell i (λ a b. omega arith);
     row = λ i l. K .cell (34 + i) (λ a b. omega arith);
     weight = λ i l.
         rw (
-          K .cell (310 + i * 4) (λ a b. omega arith),
-          K .cell (311 + i * 4) (λ a b. omega arith),
-          K .cell (312 + i * 4) (λ a b. omega arith),
-          K .cell (313 + i * 4) (λ a b. omega arith),
+          K .cell (276 + i * 4) (λ a b. omega arith),
+          K .cell (277 + i * 4) (λ a b. omega arith),
+          K .cell (278 + i * 4) (λ a b. omega arith),
+          K .cell (279 + i * 4) (λ a b. omega arith),
         );
-    allowed = λ i l. ap (λ x. eqb x 1) (K .cell (446 + i) (λ a b. omega arith));
+    allowed = λ i l. ap (λ x. eqb x 1) (K .cell (412 + i) (λ a b. omega arith));
     atRank = λ t l. K .cell (102 + t) (λ a b. omega arith);
     rank = λ i l. K .cell (68 + i) (λ a b. omega arith);
   }
@@ -232,76 +210,57 @@ module _ {s r : List ℕ} (K : Kept s r) where
     sorted = sorted-same (kept-same (o .few)) (o .sorted);
   }
 
--- Low, high and top of each point; the rest is as it was.
+-- Top and high of each point; the rest is as it was.
 pub record Limited (s r : List ℕ) : Type 0 where
   pub kept : Kept s r
-  pub low-is : (i : ℕ) → Point (heightsOf r) i → getD r (136 + i) 0 ≡ lowOf (heightsOf r) i
+  pub top-is : (i : ℕ) → Point (heightsOf r) i → getD r (136 + i) 0 ≡ topOf (heightsOf r) i
   pub high-is : (i : ℕ) → Point (heightsOf r) i → getD r (170 + i) 0 ≡ highOf (heightsOf r) i
-  pub top-is : (i : ℕ) → Point (heightsOf r) i → getD r (204 + i) 0 ≡ topOf (heightsOf r) i
 
 -- Those of the points 1 to m are written into s.
 pub record LimitedTo (s : List ℕ) (m : ℕ) (r : List ℕ) : Type 0 where
   pub kept : Kept s r
-  pub low : (k : ℕ) → k < m → getD r (137 + k) 0 ≡ topOf (heightsOf s) (k + 1)
+  pub top : (k : ℕ) → k < m → getD r (137 + k) 0 ≡ topOf (heightsOf s) (k + 1)
   pub high : (k : ℕ) → k < m → getD r (171 + k) 0 ≡ highOf (heightsOf s) (k + 1)
-  pub top : (k : ℕ) → k < m → getD r (205 + k) 0 ≡ topOf (heightsOf s) (k + 1)
 
 pub limited-none : (s : List ℕ) → LimitedTo s 0 s
 limited-none s = record {
   kept = record { long = refl; cell = λ c x. refl };
-  low = λ k b. absurd (omega arith);
-  high = λ k b. absurd (omega arith);
   top = λ k b. absurd (omega arith);
+  high = λ k b. absurd (omega arith);
 }
 
--- One more point, whose top is t and whose high is h. Low is top.
-module _ {s : List ℕ} {m : ℕ} {r : List ℕ} (few : m < 32) (long : length r ≡ 517) (T : LimitedTo s m r) (t h : ℕ) where
-  abbrev with-low : List ℕ
-  with-low = set r (137 + m) t
+-- One more point, whose top is t and whose high is h.
+module _ {s : List ℕ} {m : ℕ} {r : List ℕ} (few : m < 32) (long : length r ≡ 483) (T : LimitedTo s m r) (t h : ℕ) where
+  abbrev with-top : List ℕ
+  with-top = set r (137 + m) t
 
   abbrev with-high : List ℕ
-  with-high = set with-low (171 + m) h
-
-  abbrev with-top : List ℕ
-  with-top = set with-high (205 + m) t
+  with-high = set with-top (171 + m) h
 
   -- a cell that isn't written now
-  beside : (c : ℕ) → (c ≡ 137 + m → ⊥) → (c ≡ 171 + m → ⊥) → (c ≡ 205 + m → ⊥) → getD with-top c 0 ≡ getD r c 0
-  beside c x y z =
-      getD-set-other with-high (205 + m) c t 0 z
-      ∙ (getD-set-other with-low (171 + m) c h 0 y ∙ getD-set-other r (137 + m) c t 0 x)
+  beside : (c : ℕ) → (c ≡ 137 + m → ⊥) → (c ≡ 171 + m → ⊥) → getD with-high c 0 ≡ getD r c 0
+  beside c x y = getD-set-other with-top (171 + m) c h 0 y ∙ getD-set-other r (137 + m) c t 0 x
 
-  low-here : getD with-top (137 + m) 0 ≡ t
-  low-here =
-      getD-set-other with-high (205 + m) (137 + m) t 0 (λ e. omega arith)
-      ∙ (getD-set-other with-low (171 + m) (137 + m) h 0 (λ e. omega arith) ∙ getD-set-same r (137 + m) t 0 (omega arith))
+  top-here : getD with-high (137 + m) 0 ≡ t
+  top-here = getD-set-other with-top (171 + m) (137 + m) h 0 (λ e. omega arith) ∙ getD-set-same r (137 + m) t 0 (omega arith)
 
-  high-here : getD with-top (171 + m) 0 ≡ h
-  high-here = getD-set-other with-high (205 + m) (171 + m) t 0 (λ e. omega arith) ∙ getD-set-same with-low (171 + m) h 0 (simp length-set (omega arith))
+  high-here : getD with-high (171 + m) 0 ≡ h
+  high-here = getD-set-same with-top (171 + m) h 0 (simp length-set (omega arith))
 
-  top-here : getD with-top (205 + m) 0 ≡ t
-  top-here = getD-set-same with-high (205 + m) t 0 (simp length-set (omega arith))
-
-  pub limited-more : t ≡ topOf (heightsOf s) (m + 1) → h ≡ highOf (heightsOf s) (m + 1) → LimitedTo s (m + 1) with-top
+  pub limited-more : t ≡ topOf (heightsOf s) (m + 1) → h ≡ highOf (heightsOf s) (m + 1) → LimitedTo s (m + 1) with-high
   limited-more e f = record {
     kept = record {
       long = simp length-set (T .kept .long);
-      cell = λ c x.
-          beside c (λ z. x (omega arith) (omega arith)) (λ z. x (omega arith) (omega arith)) (λ z. x (omega arith) (omega arith))
-          ∙ T .kept .cell c x;
+      cell = λ c x. beside c (λ z. x (omega arith) (omega arith)) (λ z. x (omega arith) (omega arith)) ∙ T .kept .cell c x;
     };
-    low = λ k b.
-        same k m
-        (λ z. rw z (low-here ∙ e))
-        (λ ne. beside (137 + k) (λ z. omega arith) (λ z. omega arith) (λ z. omega arith) ∙ T .low k (omega arith));
-    high = λ k b.
-        same k m
-        (λ z. rw z (high-here ∙ f))
-        (λ ne. beside (171 + k) (λ z. omega arith) (λ z. omega arith) (λ z. omega arith) ∙ T .high k (omega arith));
     top = λ k b.
         same k m
         (λ z. rw z (top-here ∙ e))
-        (λ ne. beside (205 + k) (λ z. omega arith) (λ z. omega arith) (λ z. omega arith) ∙ T .top k (omega arith));
+        (λ ne. beside (137 + k) (λ z. omega arith) (λ z. omega arith) ∙ T .top k (omega arith));
+    high = λ k b.
+        same k m
+        (λ z. rw z (high-here ∙ f))
+        (λ ne. beside (171 + k) (λ z. omega arith) (λ z. omega arith) ∙ T .high k (omega arith));
   }
 
 -- What was written for the points 1 to m, from cell c + 1 on.
@@ -315,13 +274,9 @@ at-point c f r {m} w i l u =
 pub limited : {s r : List ℕ} → InOrder s → LimitedTo s (heightsOf s .n) r → Limited s r
 limited {s} {r} o T =
     let H = kept-same (T .kept) (o .few) in
-    let q = kept-order (T .kept) o in
     let within : (i : ℕ) → Point (heightsOf r) i → i ≤ heightsOf s .n = λ i p. omega (arith, H .n, p .high) in
     record {
       kept = T .kept;
-      low-is = λ i p.
-          at-point 136 (topOf (heightsOf s)) r (T .low) i (p .low) (within i p)
-          ∙ (sym (top-same H i (within i p)) ∙ sym (low-top (q .sorted) i p));
+      top-is = λ i p. at-point 136 (topOf (heightsOf s)) r (T .top) i (p .low) (within i p) ∙ sym (top-same H i (within i p));
       high-is = λ i p. at-point 170 (highOf (heightsOf s)) r (T .high) i (p .low) (within i p) ∙ sym (high-same H i (within i p));
-      top-is = λ i p. at-point 204 (topOf (heightsOf s)) r (T .top) i (p .low) (within i p) ∙ sym (top-same H i (within i p));
     }

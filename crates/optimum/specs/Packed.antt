@@ -5,20 +5,20 @@ use Prim.Native.Nat.{ℕ, suc, _+_, _≤_, _<_}
 use lib.ListN.{getD}
 use Rattle.labeling.specs.Recurrence.{Point, Sorted, total}
 use Rattle.labeling.specs.Totals.{all}
-use Rattle.labeling.specs.Comparisons.{lowOf, highOf, topOf}
+use Rattle.labeling.specs.Comparisons.{highOf, topOf}
 use Rattle.orders.specs.Sums.{tri, tet}
 use Rattle.orders.specs.Arrays.{heightsOf}
 
--- The points are in height order and few; low, high and top are theirs; the boundaries have
--- rank n; the two tables of numbers are right; and the whole weight is far below what 64 bits hold.
+-- The points are in height order and few; top and high are theirs; the boundaries have rank n; the two tables of numbers are right; each
+-- point weighs something, and all together far less than 64 bits hold.
 pub record Packed (s : List ℕ) : Type 0 where
   pub few : heightsOf s .n ≤ 32
   pub sorted : Sorted (heightsOf s)
-  pub low-is : (i : ℕ) → Point (heightsOf s) i → getD s (136 + i) 0 ≡ lowOf (heightsOf s) i
+  pub top-is : (i : ℕ) → Point (heightsOf s) i → getD s (136 + i) 0 ≡ topOf (heightsOf s) i
   pub high-is : (i : ℕ) → Point (heightsOf s) i → getD s (170 + i) 0 ≡ highOf (heightsOf s) i
-  pub top-is : (i : ℕ) → Point (heightsOf s) i → getD s (204 + i) 0 ≡ topOf (heightsOf s) i
   pub lower-rank : heightsOf s .rank 0 ≡ heightsOf s .n
   pub upper-rank : heightsOf s .rank (suc (heightsOf s .n)) ≡ heightsOf s .n
-  pub tri-is : (k : ℕ) → k < 36 → getD s (238 + k) 0 ≡ tri k
-  pub tet-is : (k : ℕ) → k < 36 → getD s (274 + k) 0 ≡ tet k
+  pub tri-is : (k : ℕ) → k < 36 → getD s (204 + k) 0 ≡ tri k
+  pub tet-is : (k : ℕ) → k < 36 → getD s (240 + k) 0 ≡ tet k
+  pub heavy : (i : ℕ) → Point (heightsOf s) i → 1 ≤ heightsOf s .weight i
   pub light : total (heightsOf s) all (heightsOf s .n) < 1125899906842624

@@ -31,10 +31,16 @@ in-row : (a b b′ q : ℕ) → q ≤ a → a < b → b < b′ → placeOf a b q
 unfolding tet placeOf
 in-row a b b′ q h k l = omega (arith, tet-mono (suc (suc b)) (suc b′) (omega arith), in-slab a b q h k)
 
--- A place of 32 points is below 6,545.
-pub place-below : (a b q : ℕ) → q ≤ a → a < b → b ≤ 33 → placeOf a b q < 6545
+-- The places of n points are below the tetrahedral number of n + 3, and those of 32 points below 6,545.
+pub place-rows : (a b q n : ℕ) → q ≤ a → a < b → b ≤ suc n → placeOf a b q < tet (n + 3)
+place-rows a b q n h k l = let e : suc (n + 2) ≡ n + 3 = omega arith in rw e at (in-row a b (n + 2) q h k (omega arith))
+
+pub rows-below : (n : ℕ) → n ≤ 32 → tet (n + 3) ≤ 6545
 unfolding tet tri
-place-below a b q h k l = omega (arith, in-row a b 34 q h k (omega arith))
+rows-below n l = omega (arith, tet-mono (n + 3) 35 (omega arith))
+
+pub place-below : (a b q : ℕ) → q ≤ a → a < b → b ≤ 33 → placeOf a b q < 6545
+place-below a b q h k l = omega (arith, place-rows a b q 32 h k (omega arith), rows-below 32 (omega arith))
 
 -- Two entries at one place are one entry.
 pub place-same : (a b q a′ b′ q′ : ℕ) → q ≤ a → a < b → q′ ≤ a′ → a′ < b′ → placeOf a b q ≡ placeOf a′ b′ q′ → (a ≡ a′) × (b ≡ b′) × (q ≡ q′)

@@ -31,15 +31,15 @@ prepared {sheet} {s} {r} o m =
       packed = record {
         few = q .few;
         sorted = q .sorted;
-        low-is = m .low-is;
-        high-is = m .high-is;
         top-is = m .top-is;
+        high-is = m .high-is;
         lower-rank = H .rank 0 (omega arith) ∙ (o .lower-rank ∙ sym (H .n));
         upper-rank =
             ap (λ x. heightsOf r .rank (suc x)) (H .n)
             ∙ (H .rank (suc (heightsOf s .n)) (omega (arith, o .few)) ∙ (o .upper-rank ∙ sym (H .n)));
-        tri-is = λ k l. m .kept .cell (238 + k) (λ a b. omega arith) ∙ o .cells .tri-is k l;
-        tet-is = λ k l. m .kept .cell (274 + k) (λ a b. omega arith) ∙ o .cells .tet-is k l;
+        tri-is = λ k l. m .kept .cell (204 + k) (λ a b. omega arith) ∙ o .cells .tri-is k l;
+        tet-is = λ k l. m .kept .cell (240 + k) (λ a b. omega arith) ∙ o .cells .tet-is k l;
+        heavy = λ i k. omega (arith, arranged-same H (pointsOf sheet) oneEach (positionAt s) (positionAt r) (kept-position (m .kept)) (o .arranged) .weight i k);
         light =
             omega (arith, o .light, ap (total (heightsOf r) all) (H .n), total-same H (heightsOf s .n) (omega arith));
       };

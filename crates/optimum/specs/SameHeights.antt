@@ -6,6 +6,7 @@ use native.Mathlib.Omega.{arith}
 use Rattle.labeling.specs.Points.{Points}
 use Rattle.labeling.specs.Totals.{all}
 use Rattle.labeling.specs.Recurrence.{Heights, Point, Sorted, overlaps, reachesOver, greatest, total}
+use Rattle.labeling.specs.RecurrenceTests.{greatest-same}
 use Rattle.labeling.specs.Comparisons.{least, overlapsAbove, highOf, topOf}
 use Rattle.labeling.specs.Positions.{Arranged, AllAllowed}
 
@@ -22,12 +23,7 @@ pub record SameHeights (H G : Heights) : Type 0 where
   pub atRank : (t : ℕ) → t < 34 → G .atRank t ≡ H .atRank t
   pub rank : (i : ℕ) → i < 34 → G .rank i ≡ H .rank i
 
--- A test that gives the same of 1 to m has the same greatest and the same least.
-pub greatest-same : (f g : ℕ → Bool) (m : ℕ) → ((i : ℕ) → 1 ≤ i → i ≤ m → f i ≡ g i) → greatest f m ≡ greatest g m
-unfolding greatest
-greatest-same f g zero e = refl
-greatest-same f g (suc m) e = rw (e (suc m) (omega arith) (omega arith), greatest-same f g m (λ i k l. e i k (omega arith)))
-
+-- A test that gives the same of 1 to m has the same least.
 least-same : (f g : ℕ → Bool) (d m : ℕ) → ((i : ℕ) → 1 ≤ i → i ≤ m → f i ≡ g i) → least f d m ≡ least g d m
 unfolding least
 least-same f g d zero e = refl
@@ -84,7 +80,7 @@ module _ {H G : Heights} (S : SameHeights H G) where
   unfolding reachesOver
   reaches-same p i l m = rw (S .column i m, S .column p l, S .row i m, S .row p l, S .w, S .h)
 
-  -- THE THREE NUMBERS
+  -- THE TWO NUMBERS
   pub high-same : (i : ℕ) → i ≤ H .n → highOf G i ≡ highOf H i
   unfolding highOf overlapsAbove
   high-same i l =

@@ -1,9 +1,9 @@
--- A number of 64 bits in four cells of 16 bits, low cell first.
+-- The cells of an entry: a number of 64 bits in four cells of 16 bits, low cell first; and behind all numbers a cell for a note.
 -- Assumes nothing.
-use mathlib.Core.Path.{_≡_}
+use mathlib.Core.Path.{_≡_, _∙_}
 use mathlib.Core.List.{List}
 use mathlib.Core.Logic.{_≢_}
-use Prim.Native.Nat.{ℕ, _+_, _*_, _/_, _%_, _<_}
+use Prim.Native.Nat.{ℕ, _+_, _*_, _/_, _%_, _≤_, _<_}
 use native.Mathlib.Omega.{arith}
 use lib.ListN.{length, getD, set, length-set}
 use lib.Seq.{getD-set-same, getD-set-other}
@@ -62,3 +62,42 @@ value-other t i j x h =
     let z : j * 4 + 0 ≡ j * 4 = omega arith in
     let a0 = rw z at (at 0 (omega arith)) in
     omega (arith, a0, at 1 (omega arith), at 2 (omega arith), at 3 (omega arith))
+
+-- THE NOTE of place i.
+unfoldable pub noteAt : List ℕ → ℕ → ℕ
+noteAt t i = getD t (26180 + i) 0
+
+-- The list with the number x and the note k + 1 at place i.
+unfoldable pub withEntry : List ℕ → ℕ → ℕ → ℕ → List ℕ
+withEntry t i x k = set (withValue t i x) (26180 + i) (k + 1)
+
+module _ (t : List ℕ) (i x k : ℕ) (small : i < 6545) where
+  pub length-entry : length (withEntry t i x k) ≡ length t
+  unfolding withEntry
+  length-entry = length-set (withValue t i x) (26180 + i) (k + 1) ∙ length-with t i x
+
+  -- What was stored is read back,
+  pub entry-note : 32725 ≤ length t → noteAt (withEntry t i x k) i ≡ k + 1
+  unfolding noteAt withEntry
+  entry-note h = getD-set-same (withValue t i x) (26180 + i) (k + 1) 0 (omega (arith, length-with t i x))
+
+  -- and no other place changes: a note changes no number, and a number no note.
+  pub entry-note-other : (j : ℕ) → (j ≢ i) → noteAt (withEntry t i x k) j ≡ noteAt t j
+  unfolding noteAt withEntry withValue
+  entry-note-other j h =
+      getD-set-other (withValue t i x) (26180 + i) (26180 + j) (k + 1) 0 (λ e. h (omega arith))
+      ∙ four-other t (i * 4) (x % 65536) (x / 65536 % 65536) (x / 4294967296 % 65536) (x / 281474976710656) (26180 + j)
+      (λ e. omega arith) (λ e. omega arith) (λ e. omega arith) (λ e. omega arith)
+
+  value-kept : (j : ℕ) → j < 6545 → valueAt (withEntry t i x k) j ≡ valueAt (withValue t i x) j
+  unfolding valueAt withEntry
+  value-kept j l =
+      let at : (c : ℕ) → c < 26180 → getD (set (withValue t i x) (26180 + i) (k + 1)) c 0 ≡ getD (withValue t i x) c 0 =
+      λ c m. getD-set-other (withValue t i x) (26180 + i) c (k + 1) 0 (λ e. omega arith) in
+      omega (arith, at (j * 4) (omega arith), at (j * 4 + 1) (omega arith), at (j * 4 + 2) (omega arith), at (j * 4 + 3) (omega arith))
+
+  pub entry-value : 32725 ≤ length t → valueAt (withEntry t i x k) i ≡ x
+  entry-value h = value-kept i small ∙ value-with t i x (omega arith)
+
+  pub entry-value-other : (j : ℕ) → j < 6545 → (j ≢ i) → valueAt (withEntry t i x k) j ≡ valueAt t j
+  entry-value-other j l h = value-kept j l ∙ value-other t i j x h

@@ -1,10 +1,12 @@
-// Choosing: the table is filled, and the choice that it gives is recovered and listed.
+// Choosing: the best is found on demand, and the choice that attains it is recovered and listed.
 ghost use mathlib.Core.Path.{_≡_};
 ghost use Prim.Native.Nat.{_≤_};
 ghost use lib.ListN.{length, replicate};
 ghost use Rattle.format.specs.Sheet.{sheetNo};
 ghost use Rattle.orders.specs.BothOrders.{BothOrders};
-ghost use Rattle.optimum.specs.Table.{Room};
+ghost use Rattle.orders.specs.Arrays.{heightsOf};
+ghost use Rattle.optimum.specs.Packed.{Packed};
+ghost use Rattle.optimum.specs.Table.{Room, Blank, Solved};
 ghost use Rattle.optimum.specs.Split.{Numbered};
 ghost use Rattle.optimum.specs.Choosing.{BestSplit, nothingChosen};
 ghost use Rattle.optimum.specs.Chosen.{TwoLists};
@@ -14,7 +16,11 @@ use crate::lists::by_position;
 use crate::lists::list_inside;
 use crate::lists::list_outside;
 use crate::lists::zeros;
-use crate::recovery::solve;
+use crate::points::point_count;
+use crate::recovery::slab;
+use crate::table::State;
+use crate::table::clear_notes;
+use crate::values::value_of;
 use orders::PointArray;
 
 // No point is marked yet.
@@ -64,6 +70,25 @@ fn two_lists(n: u8, heights: &PointArray, marks: &[u8; 32]) -> BestChoice
         outside,
         outside_count,
     }
+}
+
+// Marks the points of a best choice: one more than its weight, or 0 where no choice is without conflicts. The table is in the workspace.
+fn solve(heights: &PointArray, workspace: &mut [u16], mark: &mut [u8; 34]) -> u64
+    requires { ⌜ Packed (now heights) × Room (now workspace) × Blank (now mark) ⌝ }
+    ensures { λ r. ⌜ Solved (heightsOf (now (heights .entry))) (now (mark .exit)) r × (length (now (mark .exit)) ≡ 34) × (length (now (workspace .exit)) ≡ length (now (workspace .entry))) ⌝ }
+{
+    clear_notes(heights, workspace);
+    let all = State {
+        lower: 0,
+        upper: point_count(heights) + 1,
+        reaching: 0,
+    };
+    let best = value_of(heights, workspace, all);
+    if best == 0 {
+        return 0;
+    }
+    slab(heights, workspace, mark, all);
+    best
 }
 
 // A best choice of an accepted sheet, whose points are in order. The workspace is left zero.

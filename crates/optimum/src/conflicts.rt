@@ -10,7 +10,6 @@ use crate::points::column_at;
 use crate::points::high_at;
 use crate::points::label_height;
 use crate::points::label_width;
-use crate::points::low_at;
 use crate::points::point_count;
 use crate::points::row_at;
 use crate::points::top_at;
@@ -109,7 +108,7 @@ pub(crate) fn may_be_inside(heights: &PointArray, state: State, p: usize) -> boo
     if !allowed_at(heights, p) {
         return false;
     }
-    if low_at(heights, p) > state.lower {
+    if top_at(heights, p) > state.lower {
         return false;
     }
     if high_at(heights, p) < state.upper {

@@ -1,4 +1,4 @@
-// Low, high and top of each point.
+// Top and high of each point.
 ghost use mathlib.Core.Path.{_≡_};
 ghost use Prim.Native.Nat.{_+_, _<_};
 ghost use Rattle.labeling.specs.Recurrence.{Point};
@@ -13,7 +13,7 @@ use crate::points::row_at;
 use orders::PointArray;
 
 // The label of i ends below the row of j.
-fn label_below(heights: &PointArray, i: usize, j: usize) -> bool
+pub(crate) fn label_below(heights: &PointArray, i: usize, j: usize) -> bool
     requires { ⌜ (i < 34) × (j < 34) ⌝ }
     ensures { λ r. ⌜ r ≡ labelBelow (heightsOf (now (heights .entry))) i j ⌝ }
 {
@@ -70,7 +70,7 @@ fn high(heights: &PointArray, i: usize) -> usize
     n + 1
 }
 
-// Low, high and top of each point. Its low, the greatest point below it that is right of it and overlaps it, is its top.
+// Top and high of each point.
 pub(crate) fn write_limits(heights: &mut PointArray)
     requires { ⌜ InOrder (now heights) ⌝ }
     ensures { λ _. ⌜ Limited (now (heights .entry)) (now (heights .exit)) ⌝ }
@@ -82,7 +82,6 @@ pub(crate) fn write_limits(heights: &mut PointArray)
         let least = high(heights, k + 1) as u16;
         heights[137 + k] = topmost;
         heights[171 + k] = least;
-        heights[205 + k] = topmost;
         k += 1;
     }
 }

@@ -22,7 +22,7 @@ fn position_at(heights: &PointArray, i: usize) -> u8
     requires { ⌜ (i < 34) × (positionAt (now heights) i < 256) ⌝ }
     ensures { λ r. ⌜ r ≡ positionAt (now (heights .entry)) i ⌝ }
 {
-    heights[480 + i] as u8
+    heights[446 + i] as u8
 }
 
 // Whether a position is inside.

@@ -3,7 +3,7 @@ ghost use mathlib.Core.Path.{_≡_};
 ghost use Prim.Native.Nat.{_+_, _*_, _<_};
 ghost use lib.ListN.{getD};
 ghost use Rattle.labeling.specs.Recurrence.{Point};
-ghost use Rattle.labeling.specs.Comparisons.{lowOf, highOf, topOf};
+ghost use Rattle.labeling.specs.Comparisons.{highOf, topOf};
 ghost use Rattle.orders.specs.Arrays.{heightsOf};
 ghost use Rattle.optimum.specs.Packed.{Packed};
 ghost use Rattle.orders.specs.Sums.{tri, tet};
@@ -32,7 +32,7 @@ pub(crate) fn number(x: u16) -> usize
 
 // The cell at place i.
 fn cell(heights: &PointArray, i: usize) -> usize
-    requires { ⌜ i < 517 ⌝ }
+    requires { ⌜ i < 483 ⌝ }
     ensures { λ r. ⌜ (r ≡ getD (now (heights .entry)) i 0) × (r < 65536) ⌝ }
 {
     number(heights[i])
@@ -42,7 +42,7 @@ fn cell(heights: &PointArray, i: usize) -> usize
 pub(crate) fn point_count(heights: &PointArray) -> usize
     ensures { λ r. ⌜ (r ≡ heightsOf (now (heights .entry)) .n) × (r < 65536) ⌝ }
 {
-    cell(heights, 514)
+    cell(heights, 480)
 }
 
 // The column of the point i.
@@ -77,14 +77,6 @@ pub(crate) fn at_rank(heights: &PointArray, t: usize) -> usize
     cell(heights, 102 + t)
 }
 
-// The greatest point below i that is right of it and overlaps it, or 0.
-pub(crate) fn low_at(heights: &PointArray, i: usize) -> usize
-    requires { ⌜ Packed (now heights) × Point (heightsOf (now heights)) i ⌝ }
-    ensures { λ r. ⌜ r ≡ lowOf (heightsOf (now (heights .entry))) i ⌝ }
-{
-    cell(heights, 136 + i)
-}
-
 // The least point above i that is right of it and overlaps it, or n + 1.
 pub(crate) fn high_at(heights: &PointArray, i: usize) -> usize
     requires { ⌜ Packed (now heights) × Point (heightsOf (now heights)) i ⌝ }
@@ -98,7 +90,7 @@ pub(crate) fn top_at(heights: &PointArray, i: usize) -> usize
     requires { ⌜ Packed (now heights) × Point (heightsOf (now heights)) i ⌝ }
     ensures { λ r. ⌜ r ≡ topOf (heightsOf (now (heights .entry))) i ⌝ }
 {
-    cell(heights, 204 + i)
+    cell(heights, 136 + i)
 }
 
 // The sum of the numbers below k.
@@ -106,7 +98,7 @@ pub(crate) fn triangular(heights: &PointArray, k: usize) -> usize
     requires { ⌜ Packed (now heights) × (k < 36) ⌝ }
     ensures { λ r. ⌜ (r ≡ tri k) × (r < 65536) ⌝ }
 {
-    cell(heights, 238 + k)
+    cell(heights, 204 + k)
 }
 
 // The sum of the triangular numbers below k.
@@ -114,7 +106,7 @@ pub(crate) fn tetrahedral(heights: &PointArray, k: usize) -> usize
     requires { ⌜ Packed (now heights) × (k < 36) ⌝ }
     ensures { λ r. ⌜ (r ≡ tet k) × (r < 65536) ⌝ }
 {
-    cell(heights, 274 + k)
+    cell(heights, 240 + k)
 }
 
 // The weight of the point i.
@@ -124,10 +116,10 @@ pub(crate) fn weight_at(heights: &PointArray, i: usize) -> u64
 {
     let k = i * 4;
     four_cells(
-        heights[310 + k],
-        heights[311 + k],
-        heights[312 + k],
-        heights[313 + k],
+        heights[276 + k],
+        heights[277 + k],
+        heights[278 + k],
+        heights[279 + k],
     )
 }
 
@@ -136,19 +128,19 @@ pub(crate) fn allowed_at(heights: &PointArray, i: usize) -> bool
     requires { ⌜ i < 34 ⌝ }
     ensures { λ r. ⌜ r ≡ heightsOf (now (heights .entry)) .allowed i ⌝ }
 {
-    cell(heights, 446 + i) == 1
+    cell(heights, 412 + i) == 1
 }
 
 // The width of a label.
 pub(crate) fn label_width(heights: &PointArray) -> usize
     ensures { λ r. ⌜ (r ≡ heightsOf (now (heights .entry)) .w) × (r < 65536) ⌝ }
 {
-    cell(heights, 515)
+    cell(heights, 481)
 }
 
 // The height of a label.
 pub(crate) fn label_height(heights: &PointArray) -> usize
     ensures { λ r. ⌜ (r ≡ heightsOf (now (heights .entry)) .h) × (r < 65536) ⌝ }
 {
-    cell(heights, 516)
+    cell(heights, 482)
 }

@@ -1,18 +1,24 @@
-// The table of values, in the workspace: four cells an entry, an entry for each state.
+// The table, in the workspace: an entry for each slab that was asked for, of four cells for its value and, behind all values, one for its
+// note.
 ghost use mathlib.Core.Path.{_≡_};
 ghost use Prim.Native.Nat.{_+_, _*_, _<_};
 ghost use lib.ListN.{length};
 ghost use Rattle.labeling.specs.Recurrence.{between};
 ghost use Rattle.orders.specs.Arrays.{heightsOf};
 ghost use Rattle.optimum.specs.Packed.{Packed};
-ghost use Rattle.optimum.specs.Places.{placeOf};
-ghost use Rattle.optimum.specs.Words.{valueAt, withValue};
-ghost use Rattle.optimum.specs.Table.{Proper};
+ghost use Rattle.optimum.specs.Words.{valueAt, withValue, noteAt, withEntry};
+ghost use Rattle.optimum.specs.Slabs.{slabPlace};
+ghost use Rattle.optimum.specs.Table.{Room, Ready, Unnoted};
 use crate::points::four_cells;
+use crate::points::number;
+use crate::points::point_count;
 use crate::points::tetrahedral;
 use crate::points::triangular;
 use orders::PointArray;
 use std::num::wrapping_sub_usize;
+
+// Where the notes begin: behind the four cells of each of 6,545 values.
+const NOTES: usize = 26180;
 
 // A slab (a, b, q in specs/): its lower and upper ends, each a boundary or an outside point, and the inside point from below whose
 // label reaches over the lower end, or 0.
@@ -20,6 +26,13 @@ pub(crate) struct State {
     pub lower: usize,
     pub upper: usize,
     pub reaching: usize,
+}
+
+// What is found of a slab: its value, 0 where it has no choice; and its cut, one more than the rank of the point that it is cut at, or 0
+// where all its open points go inside.
+pub(crate) struct Found {
+    pub value: u64,
+    pub cut: usize,
 }
 
 // The point p is strictly between the ends of a slab. One test is enough: the distance from the lower end wraps round to a great
@@ -32,6 +45,14 @@ pub(crate) fn is_between(state: State, p: usize) -> bool
     wrapping_sub_usize(p, first) < state.upper - first
 }
 
+// The place of a slab.
+pub(crate) fn place(heights: &PointArray, state: State) -> usize
+    requires { ⌜ Ready (now heights) state ⌝ }
+    ensures { λ r. ⌜ (r ≡ slabPlace state) × (r < 6545) ⌝ }
+{
+    tetrahedral(heights, state.upper + 1) + triangular(heights, state.lower + 1) + state.reaching
+}
+
 // The value at a place.
 pub(crate) fn read_value(table: &[u16], place: usize) -> u64
     requires { ⌜ place * 4 + 3 < length (now table) ⌝ }
@@ -42,7 +63,7 @@ pub(crate) fn read_value(table: &[u16], place: usize) -> u64
 }
 
 // Stores a value at a place.
-pub(crate) fn write_value(table: &mut [u16], place: usize, x: u64)
+fn write_value(table: &mut [u16], place: usize, x: u64)
     requires { ⌜ place * 4 + 3 < length (now table) ⌝ }
     ensures { λ _. ⌜ now (table .exit) ≡ withValue (now (table .entry)) place x ⌝ }
 {
@@ -53,10 +74,32 @@ pub(crate) fn write_value(table: &mut [u16], place: usize, x: u64)
     table[k + 3] = (x / 281474976710656) as u16;
 }
 
-// The place of a state.
-pub(crate) fn place(heights: &PointArray, state: State) -> usize
-    requires { ⌜ Packed (now heights) × Proper (heightsOf (now heights)) (state .lower) (state .upper) (state .reaching) ⌝ }
-    ensures { λ r. ⌜ (r ≡ placeOf (state .lower) (state .upper) (state .reaching)) × (r < 6545) ⌝ }
+// The note at a place: 0 as long as nothing is known of the slab, and then one more than its cut.
+pub(crate) fn read_note(table: &[u16], place: usize) -> usize
+    requires { ⌜ (place < 6545) × Room (now table) ⌝ }
+    ensures { λ r. ⌜ (r ≡ noteAt (now (table .entry)) place) × (r < 65536) ⌝ }
 {
-    tetrahedral(heights, state.upper + 1) + triangular(heights, state.lower + 1) + state.reaching
+    number(table[NOTES + place])
+}
+
+// Stores and notes an entry at a place.
+pub(crate) fn write_entry(table: &mut [u16], place: usize, found: Found)
+    requires { ⌜ (place < 6545) × Room (now table) × (found .cut < 65535) ⌝ }
+    ensures { λ _. ⌜ now (table .exit) ≡ withEntry (now (table .entry)) place (found .value) (found .cut) ⌝ }
+{
+    write_value(table, place, found.value);
+    table[NOTES + place] = (found.cut + 1) as u16;
+}
+
+// Clears the notes of all slabs of the points. The values need no clearing: without a note none is read.
+pub(crate) fn clear_notes(heights: &PointArray, table: &mut [u16])
+    requires { ⌜ Packed (now heights) × Room (now table) ⌝ }
+    ensures { λ _. ⌜ Unnoted (now (heights .entry)) (now (table .entry)) (now (table .exit)) ⌝ }
+{
+    let end = NOTES + tetrahedral(heights, point_count(heights) + 3);
+    let mut i = NOTES;
+    while i < end {
+        table[i] = 0;
+        i += 1;
+    }
 }

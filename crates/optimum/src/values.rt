@@ -1,32 +1,40 @@
-// The value of a state: 0 where it has no choice, else one more than the weight of a best choice of its open points.
+// The value of a slab: 0 where it has no choice, else one more than the weight of a best choice of its open points.
 ghost use mathlib.Core.Path.{_≡_};
-ghost use mathlib.Core.Bool.{false};
-ghost use Prim.Native.Nat.{_+_, _<_, _≤_, min, max};
-ghost use Rattle.labeling.specs.Recurrence.{join, value, outValue};
+ghost use mathlib.Core.Bool.{_&&_};
+ghost use Prim.Native.Nat.{suc, _+_, _<_, _≤_, min};
+ghost use Rattle.labeling.specs.Recurrence.{join};
+ghost use Rattle.labeling.specs.Safe.{unreached};
 ghost use Rattle.orders.specs.Arrays.{heightsOf};
-ghost use Rattle.optimum.specs.Table.{limit, Lowest, Ready, Opened, Stepped};
+ghost use Rattle.optimum.specs.Packed.{Packed};
+ghost use Rattle.optimum.specs.Slabs.{limit};
+ghost use Rattle.optimum.specs.Table.{betterOf, Settled, Kept, Asked, Valued, Cutting, ValuedOutside, Running, Stepped};
 use crate::conflicts::may_be_inside;
+use crate::conflicts::reaches_over;
 use crate::conflicts::reaching_over;
 use crate::conflicts::rows_differ;
+use crate::limits::label_below;
 use crate::points::at_rank;
 use crate::points::rank_at;
 use crate::points::weight_at;
+use crate::table::Found;
 use crate::table::State;
 use crate::table::is_between;
 use crate::table::place;
+use crate::table::read_note;
 use crate::table::read_value;
+use crate::table::write_entry;
 use orders::PointArray;
 
-// Where the loop of an entry stands: the best value with a point left outside so far, one more than the weight of the points put
-// inside so far, and whether the loop ends here.
-pub(crate) struct Run {
-    pub best: u64,
-    pub acc: u64,
-    pub ended: bool,
+// Where the loop of an entry stands: the best with a point left outside so far; one more than the weight of the points put inside so far;
+// and whether the loop ends here.
+struct Run {
+    best: Found,
+    acc: u64,
+    ended: bool,
 }
 
 // The lesser of two numbers.
-pub(crate) fn lesser(i: usize, j: usize) -> usize
+fn lesser(i: usize, j: usize) -> usize
     ensures { λ r. ⌜ r ≡ min i j ⌝ }
 {
     if j < i {
@@ -35,22 +43,22 @@ pub(crate) fn lesser(i: usize, j: usize) -> usize
     i
 }
 
-// The greater of two values.
-fn greater(x: u64, y: u64) -> u64
-    ensures { λ r. ⌜ r ≡ max x y ⌝ }
+// The better of two; of equal ones the first.
+fn better(best: Found, other: Found) -> Found
+    ensures { λ r. ⌜ r ≡ betterOf best other ⌝ }
 {
-    if x < y {
-        return y;
+    if best.value < other.value {
+        return other;
     }
-    x
+    best
 }
 
-// The rank below which the points from a to b are open.
-pub(crate) fn open_below(heights: &PointArray, a: usize, b: usize) -> usize
-    requires { ⌜ (a < 34) × (b < 34) ⌝ }
-    ensures { λ r. ⌜ r ≡ limit (heightsOf (now (heights .entry))) a b ⌝ }
+// The rank below which the points of a slab are open.
+pub(crate) fn open_below(heights: &PointArray, state: State) -> usize
+    requires { ⌜ (state .lower < 34) × (state .upper < 34) ⌝ }
+    ensures { λ r. ⌜ r ≡ limit (heightsOf (now (heights .entry))) state ⌝ }
 {
-    lesser(rank_at(heights, a), rank_at(heights, b))
+    lesser(rank_at(heights, state.lower), rank_at(heights, state.upper))
 }
 
 // The values of two parts, with the weight put inside so far.
@@ -68,15 +76,9 @@ fn joined(acc: u64, x: u64, y: u64) -> u64
 }
 
 // What the open point p gives outside, with the weight put inside so far: the slab is cut at p.
-pub(crate) fn outside_value(
-    heights: &PointArray,
-    table: &[u16],
-    state: State,
-    p: usize,
-    acc: u64,
-) -> u64
-    requires { ⌜ Opened (now heights) (now table) (state .lower) (state .upper) (state .reaching) p × (1 ≤ acc) × (acc ≤ 72057594037927936) ⌝ }
-    ensures { λ r. ⌜ r ≡ join acc (outValue (heightsOf (now (heights .entry))) (heightsOf (now (heights .entry)) .rank p) (state .lower) (state .upper) (state .reaching)) ⌝ }
+fn outside_value(heights: &PointArray, table: &mut [u16], state: State, p: usize, acc: u64) -> u64
+    requires { ⌜ Cutting (now heights) (now table) state p acc ⌝ }
+    ensures { λ r. ⌜ ValuedOutside (now (heights .entry)) state p acc r (now (table .entry)) (now (table .exit)) ⌝ }
 {
     if !rows_differ(heights, p, state.upper) {
         return 0;
@@ -92,25 +94,66 @@ pub(crate) fn outside_value(
         upper: state.upper,
         reaching: over,
     };
-    let x = read_value(table, place(heights, lower_part));
-    let y = read_value(table, place(heights, upper_part));
+    let x = value_of(heights, table, lower_part);
+    let y = value_of(heights, table, upper_part);
     joined(acc, x, y)
 }
 
-// One step of the entry's loop, at rank t: what its point gives outside may be a new best, and inside it adds its weight.
-pub(crate) fn step(heights: &PointArray, table: &[u16], state: State, t: usize, run: Run) -> Run
-    requires { ⌜ Ready (now heights) (now table) (state .lower) (state .upper) (state .reaching) × (t < limit (heightsOf (now heights)) (state .lower) (state .upper)) × (1 ≤ run .acc) × (run .acc ≤ 72057594037927936) × (run .ended ≡ false) ⌝ }
-    ensures { λ r. ⌜ Stepped (heightsOf (now (heights .entry))) t (state .lower) (state .upper) (state .reaching) (run .best) (run .acc) (r .best) (r .acc) (r .ended) ⌝ }
+// The label of p reaches over no point between p and b.
+fn reaches_none(heights: &PointArray, p: usize, b: usize) -> bool
+    requires { ⌜ Packed (now heights) × (1 ≤ p) × (p < b) × (b ≤ heightsOf (now heights) .n + 1) ⌝ }
+    ensures { λ r. ⌜ r ≡ unreached (heightsOf (now (heights .entry))) p b ⌝ }
+{
+    let mut y = p + 1;
+    while y < b {
+        if label_below(heights, p, y) {
+            return true;
+        }
+        if reaches_over(heights, y, p) {
+            return false;
+        }
+        y += 1;
+    }
+    true
+}
+
+// The open point p is safe: it may be inside, and its label reaches over no point above it in the slab. Then it gives no more outside.
+fn is_safe(heights: &PointArray, p: usize, b: usize, good: bool) -> bool
+    requires { ⌜ Packed (now heights) × (1 ≤ p) × (p < b) × (b ≤ heightsOf (now heights) .n + 1) ⌝ }
+    ensures { λ r. ⌜ r ≡ (good && unreached (heightsOf (now (heights .entry))) p b) ⌝ }
+{
+    if !good {
+        return false;
+    }
+    reaches_none(heights, p, b)
+}
+
+// One step of the entry's loop, at rank t: what its point gives outside may be a new best, unless it is safe; inside it adds its weight.
+fn step(heights: &PointArray, table: &mut [u16], state: State, t: usize, run: Run) -> Run
+    requires { ⌜ Asked (now heights) (now table) state × Running (heightsOf (now heights)) state (suc t) run ⌝ }
+    ensures { λ r. ⌜ Stepped (now (heights .entry)) state t r (now (table .entry)) (now (table .exit)) ⌝ }
 {
     let p = at_rank(heights, t);
     if !is_between(state, p) {
         return run;
     }
-    let outside = outside_value(heights, table, state, p, run.acc);
-    let best = greater(run.best, outside);
-    if !may_be_inside(heights, state, p) {
+    let so_far = run.best;
+    let inside = may_be_inside(heights, state, p);
+    if is_safe(heights, p, state.upper, inside) {
         return Run {
-            best: best,
+            best: so_far,
+            acc: run.acc + weight_at(heights, p),
+            ended: false,
+        };
+    }
+    let outside = Found {
+        value: outside_value(heights, table, state, p, run.acc),
+        cut: t + 1,
+    };
+    let best = better(so_far, outside);
+    if !inside {
+        return Run {
+            best,
             acc: run.acc,
             ended: true,
         };
@@ -122,24 +165,46 @@ pub(crate) fn step(heights: &PointArray, table: &[u16], state: State, t: usize, 
     }
 }
 
-// The value of a state of the table, by a loop over the ranks of its open points downwards, none of which is below `lowest`. It ends at
-// a point that may not be inside.
-pub(crate) fn entry(heights: &PointArray, table: &[u16], state: State, lowest: usize) -> u64
-    requires { ⌜ Ready (now heights) (now table) (state .lower) (state .upper) (state .reaching) × Lowest (heightsOf (now heights)) (state .lower + 1) (state .upper) lowest ⌝ }
-    ensures { λ r. ⌜ r ≡ value (heightsOf (now (heights .entry))) (limit (heightsOf (now (heights .entry))) (state .lower) (state .upper)) (state .lower) (state .upper) (state .reaching) ⌝ }
+// The entry of a slab, by a loop over the ranks of its open points downwards, which ends at a point that may not be inside. With no point
+// between its ends there is nothing to choose.
+fn entry(heights: &PointArray, table: &mut [u16], state: State) -> Found
+    requires { ⌜ Asked (now heights) (now table) state ⌝ }
+    ensures { λ r. ⌜ Settled (heightsOf (now (heights .entry))) state r × Kept (now (heights .entry)) (now (table .entry)) (now (table .exit)) ⌝ }
 {
-    let mut t = open_below(heights, state.lower, state.upper);
+    if state.upper - state.lower < 2 {
+        return Found { value: 1, cut: 0 };
+    }
+    let mut t = open_below(heights, state);
     let mut run = Run {
-        best: 0,
+        best: Found { value: 0, cut: 0 },
         acc: 1,
         ended: false,
     };
-    while t > lowest {
+    while t > 0 {
         t -= 1;
         run = step(heights, table, state, t, run);
         if run.ended {
             return run.best;
         }
     }
-    greater(run.best, run.acc)
+    let outside = run.best;
+    let inside = Found {
+        value: run.acc,
+        cut: 0,
+    };
+    better(outside, inside)
+}
+
+// The value of a slab: looked up, or computed and then kept.
+pub(crate) fn value_of(heights: &PointArray, table: &mut [u16], state: State) -> u64
+    requires { ⌜ Asked (now heights) (now table) state ⌝ }
+    ensures { λ r. ⌜ Valued (now (heights .entry)) state r (now (table .entry)) (now (table .exit)) ⌝ }
+{
+    let at = place(heights, state);
+    if read_note(&table[..], at) != 0 {
+        return read_value(&table[..], at);
+    }
+    let found = entry(heights, table, state);
+    write_entry(table, at, found);
+    found.value
 }

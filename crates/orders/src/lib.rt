@@ -16,12 +16,12 @@ mod ranks;
 mod right_order;
 
 // The array of the points, field after field. specs/Arrays.antt has its layout.
-pub type PointArray = [u16; 517];
+pub type PointArray = [u16; 483];
 
 // The points in both orders, or why there are none: the number of the first no, 0 for none.
 pub struct OrderedPoints {
     pub number: u8,
-    pub heights: [u16; 517],
+    pub heights: [u16; 483],
 }
 
 // The array of an accepted sheet.

@@ -1,4 +1,4 @@
--- `optimum::limits::write_limits` meets its contract: three numbers are written in each turn, and the points stay as they are.
+-- `optimum::limits::write_limits` meets its contract: two numbers are written in each turn, and the points stay as they are.
 -- Assumes nothing.
 use borrow.Author.Needs.{needs}
 use mathlib.Core.Path.{_≡_, _∙_}
@@ -69,15 +69,6 @@ mul-heights-2 c = search needs
 element-write-heights-2 : tie.Need-element-write-heights-2 Inv-loop μ-loop
 element-write-heights-2 c = search needs
 
-add-heights-3 : tie.Need-add-heights-3 Inv-loop μ-loop
-add-heights-3 c = search needs
-
-mul-heights-3 : tie.Need-mul-heights-3 Inv-loop μ-loop
-mul-heights-3 c = search needs
-
-element-write-heights-3 : tie.Need-element-write-heights-3 Inv-loop μ-loop
-element-write-heights-3 c = search needs
-
 add-k : tie.Need-add-k Inv-loop μ-loop
 add-k c = search needs
 
@@ -121,9 +112,6 @@ write-limits-spec =
     add-heights-2
     mul-heights-2
     element-write-heights-2
-    add-heights-3
-    mul-heights-3
-    element-write-heights-3
     add-k
     loop-less
     loop-again

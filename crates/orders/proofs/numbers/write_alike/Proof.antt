@@ -8,7 +8,7 @@ use Rattle.orders.proofs.numbers.write_alike.Statement.{statement}
 use Rattle.orders.proofs.numbers.write_alike.Tie as tie
 
 abbrev Inv-loop : tie.InvT-loop
-Inv-loop heights₀ i₀ heights i = (i ≤ 34) × BothWritten (λ i. 310 + i * 4) (λ i. 1) (λ i. 446 + i) (λ i. 1) i heights₀ heights
+Inv-loop heights₀ i₀ heights i = (i ≤ 34) × BothWritten (λ i. 276 + i * 4) (λ i. 1) (λ i. 412 + i) (λ i. 1) i heights₀ heights
 
 abbrev μ-loop : tie.MeasureT-loop
 μ-loop heights₀ i₀ heights i = 34 - i

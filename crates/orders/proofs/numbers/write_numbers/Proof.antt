@@ -13,7 +13,7 @@ write-counts-requires c κs = search needs
 first : (c : tie.After-write-counts) → c .write-counts .last .1 .0 ≡ counted (c .before .before .before .args .sheet .now) blankOf
 first c = c .write-counts .ensures ∙ ap (counted (c .before .before .before .args .sheet .now)) (c .before .before .before .pre)
 
-first-long : (c : tie.After-write-counts) → length (c .write-counts .last .1 .0) ≡ 517
+first-long : (c : tie.After-write-counts) → length (c .write-counts .last .1 .0) ≡ 483
 first-long c = rw (first c) (counted-long (c .before .before .before .args .sheet .now) blankOf blank-long)
 
 write-sums-requires : tie.Need-write-sums-requires

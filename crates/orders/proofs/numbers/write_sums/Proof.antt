@@ -11,7 +11,7 @@ use Rattle.orders.proofs.numbers.write_sums.Statement.{statement}
 use Rattle.orders.proofs.numbers.write_sums.Tie as tie
 
 abbrev Inv-loop : tie.InvT-loop
-Inv-loop heights₀ triangular₀ tetrahedral₀ k₀ heights triangular tetrahedral k = (k ≤ 36) × (triangular ≡ tri k) × (tetrahedral ≡ tet k) × BothWritten (λ i. 238 + i) tri (λ i. 274 + i) tet k heights₀ heights
+Inv-loop heights₀ triangular₀ tetrahedral₀ k₀ heights triangular tetrahedral k = (k ≤ 36) × (triangular ≡ tri k) × (tetrahedral ≡ tet k) × BothWritten (λ i. 204 + i) tri (λ i. 240 + i) tet k heights₀ heights
 
 abbrev μ-loop : tie.MeasureT-loop
 μ-loop heights₀ triangular₀ tetrahedral₀ k₀ heights triangular tetrahedral k = 36 - k
