@@ -16,7 +16,7 @@ use Rattle.labeling.specs.Recovered.{takes-out, value-down, recovered-down}
 use Rattle.orders.specs.Arrays.{heightsOf}
 use Rattle.optimum.specs.Packed.{Packed}
 use Rattle.optimum.specs.Slabs.{limit, slabHas, slabBelow, slabValue, slabTakes, slabRecovered}
-use Rattle.optimum.specs.Table.{Memo, Ready, Asked, Opened, CutAt, Recoverable, taken, markedTaken, Taking, Marked, MarkedDown, Blank, Solved}
+use Rattle.optimum.specs.Table.{Memo, Ready, Asked, Opened, CutAt, Recoverable, insideMark, taken, markedTaken, Taking, Marked, MarkedDown, Blank, Solved}
 use Rattle.optimum.specs.Steps.{opened, ready-low, ready-high, limit-low, limit-high, limit-n, fitting-zero}
 use Rattle.optimum.specs.declared.table.State.{State}
 
@@ -91,7 +91,7 @@ module _ (H : Heights) (k t i r : ℕ) (m : List ℕ) (e : r ≡ H .rank i) wher
   unfolding markedTaken taken
   marked-high l u = sym (rw (le-leb k (H .rank i) (omega arith), le-ltb (H .rank i) t (omega arith)))
 
-  pub marked-taken : k ≤ r → r < t → set m i 1 ≡ markedTaken H k t i m
+  pub marked-taken : k ≤ r → r < t → set m i insideMark ≡ markedTaken H k t i m
   unfolding markedTaken taken
   marked-taken l u = sym (rw (le-leb k (H .rank i) (omega arith), lt-ltb (H .rank i) t (omega arith)))
 
@@ -115,14 +115,14 @@ module _ {s : List ℕ} {x : State} {k : ℕ} (r : Ready s x) where
         let there : between (x .lower) i i ≡ false = dec-false (dec-between (x .lower) i i) (λ b. omega (arith, b .high)) in
         decide (taken (heightsOf s) k (limit (heightsOf s) x) i)
         (λ z.
-        let e′ : m₂ ≡ set m₁ i 1 = rw (f, z) at e in
+        let e′ : m₂ ≡ set m₁ i insideMark = rw (f, z) at e in
         record {
           low = omega (arith, y .low);
           high = omega arith;
-          same = ap length e′ ∙ (length-set m₁ i 1 ∙ y .same);
+          same = ap length e′ ∙ (length-set m₁ i insideMark ∙ y .same);
           set = λ j. same j i
-              (λ v. rw (v, z, here, e′) (getD-set-same m₁ i 1 0 long))
-              (λ ne. rw (e′, getD-set-other m₁ i j 1 0 ne, further j ne) (y .set j));
+              (λ v. rw (v, z, here, e′) (getD-set-same m₁ i insideMark 0 long))
+              (λ ne. rw (e′, getD-set-other m₁ i j insideMark 0 ne, further j ne) (y .set j));
         })
         (λ z.
         let e′ : m₂ ≡ m₁ = rw (f, z) at e in
@@ -151,15 +151,15 @@ module _ {s : List ℕ} {x : State} {k : ℕ} (r : Ready s x) where
             same = f .same ∙ y .same;
             set = λ j u. same j 0
                 (λ v. rw v (f .set 0 (omega arith) ∙ rw (y .set 0, dec-false (dec-between (x .lower) 0 i) (λ g. omega (arith, g .low)), nothing k, nothing t) refl))
-                (λ ne. f .set j u ∙ (ap (cond (slabRecovered H k x j) 1) (y .set j) ∙ (rw e (joined (slabRecovered H k x j) (slabHas x j && (leb k (H .rank j) && ltb (H .rank j) t)) (getD m j 0))
-                ∙ ap (λ (g : Bool). cond g 1 (getD m j 0)) (sym (recovered-down (r .packed .sorted) k (x .lower) (x .upper) (x .reaching) (record { low = omega arith; high = u }) t (c .below) (limit-n r) (c .above))))));
+                (λ ne. f .set j u ∙ (ap (cond (slabRecovered H k x j) insideMark) (y .set j) ∙ (rw e (joined (slabRecovered H k x j) (slabHas x j && (leb k (H .rank j) && ltb (H .rank j) t)) (getD m j 0))
+                ∙ ap (λ (g : Bool). cond g insideMark (getD m j 0)) (sym (recovered-down (r .packed .sorted) k (x .lower) (x .upper) (x .reaching) (record { low = omega arith; high = u }) t (c .below) (limit-n r) (c .above))))));
           };
         }
       where
         nothing : (t : ℕ) → slabRecovered (heightsOf s) t x 0 ≡ false
         nothing t = false-of (slabRecovered (heightsOf s) t x 0) (λ f. let g = recovered-range (heightsOf s) t (x .lower) (x .upper) (x .reaching) 0 f in omega (arith, g .low))
 
-        joined : (u v : Bool) (d : ℕ) → cond u 1 (cond v 1 d) ≡ cond (u || v) 1 d
+        joined : (u v : Bool) (d : ℕ) → cond u insideMark (cond v insideMark d) ≡ cond (u || v) insideMark d
         joined true v d = refl
         joined false v d = refl
 
@@ -230,5 +230,5 @@ module _ {s : List ℕ} (k : Packed s) (n : ℕ) (e : n ≡ heightsOf s .n) wher
       let y′ : Marked (heightsOf s) (heightsOf s .n) (record { lower = 0; upper = suc (heightsOf s .n); reaching = 0 }) m m′ = rw (all-limit, end) at y in
       record {
         best = all-value v f;
-        marks = λ _ j p. y′ .set j (p .high) ∙ ap (cond (recovered (heightsOf s) (heightsOf s .n) 0 (suc (heightsOf s .n)) 0 j) 1) (z .zero j (omega (arith, p .high, k .few)));
+        marks = λ _ j p. y′ .set j (p .high) ∙ ap (cond (recovered (heightsOf s) (heightsOf s .n) 0 (suc (heightsOf s .n)) 0 j) insideMark) (z .zero j (omega (arith, p .high, k .few)));
       }

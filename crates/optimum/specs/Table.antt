@@ -124,6 +124,10 @@ pub record Stepped (s : List ℕ) (x : State) (t : ℕ) (r : Run) (table table�
 
 -- THE RECOVERY
 
+-- The mark of an inside point; that of an outside point is 0.
+abbrev pub insideMark : ℕ
+insideMark = 1
+
 -- A slab that has a choice, and the table.
 pub record Recoverable (s table : List ℕ) (x : State) : Type 0 where
   pub asked : Asked s table x
@@ -132,7 +136,7 @@ pub record Recoverable (s table : List ℕ) (x : State) : Type 0 where
 -- The marks of the points that the recovery of the ranks below t puts inside are set, and no others changed.
 pub record Marked (H : Heights) (t : ℕ) (x : State) (mark mark′ : List ℕ) : Type 0 where
   pub same : length mark′ ≡ length mark
-  pub set : (i : ℕ) → i ≤ H .n → getD mark′ i 0 ≡ cond (slabRecovered H t x i) 1 (getD mark i 0)
+  pub set : (i : ℕ) → i ≤ H .n → getD mark′ i 0 ≡ cond (slabRecovered H t x i) insideMark (getD mark i 0)
 
 -- They are, and the table may have grown.
 pub record MarkedBelow (s : List ℕ) (t : ℕ) (x : State) (mark mark′ table table′ : List ℕ) : Type 0 where
@@ -145,14 +149,14 @@ taken H k t i = leb k (H .rank i) && ltb (H .rank i) t
 
 -- Its mark is set.
 unfoldable pub markedTaken : Heights → ℕ → ℕ → ℕ → List ℕ → List ℕ
-markedTaken H k t i mark = cond (taken H k t i) (set mark i 1) mark
+markedTaken H k t i mark = cond (taken H k t i) (set mark i insideMark) mark
 
 -- The marks of such points below i are set, and no others changed.
 pub record Taking (H : Heights) (x : State) (k i : ℕ) (mark mark′ : List ℕ) : Type 0 where
   pub low : x .lower < i
   pub high : i ≤ x .upper
   pub same : length mark′ ≡ length mark
-  pub set : (j : ℕ) → getD mark′ j 0 ≡ cond (between (x .lower) j i && taken H k (limit H x) j) 1 (getD mark j 0)
+  pub set : (j : ℕ) → getD mark′ j 0 ≡ cond (between (x .lower) j i && taken H k (limit H x) j) insideMark (getD mark j 0)
 
 -- The points of rank k or more are marked: whatever marks those below from there on marks all of them.
 pub record MarkedDown (H : Heights) (x : State) (k : ℕ) (mark mark′ : List ℕ) : Type 0 where
@@ -166,8 +170,8 @@ pub record Blank (mark : List ℕ) : Type 0 where
   pub long : length mark ≡ 34
   pub zero : (i : ℕ) → i < 34 → getD mark i 0 ≡ 0
 
--- THE RESULT: r is the value of all points, 0 where no choice is without conflicts. Where there is one, each point's mark is 1 exactly if
--- the recovery puts it inside.
+-- THE RESULT: r is the value of all points, 0 where no choice is without conflicts. Where there is one, each point is marked as the
+-- recovery puts it.
 pub record Solved (H : Heights) (mark : List ℕ) (r : ℕ) : Type 0 where
   pub best : r ≡ value H (H .n) 0 (suc (H .n)) 0
-  pub marks : 1 ≤ r → (i : ℕ) → Point H i → getD mark i 0 ≡ cond (recovered H (H .n) 0 (suc (H .n)) 0 i) 1 0
+  pub marks : 1 ≤ r → (i : ℕ) → Point H i → getD mark i 0 ≡ cond (recovered H (H .n) 0 (suc (H .n)) 0 i) insideMark 0
