@@ -5,6 +5,7 @@ pub mod baseline;
 pub mod masks;
 pub mod plate;
 pub mod sheets;
+mod table;
 
 #[cfg(test)]
 mod tests;

@@ -2,8 +2,8 @@
 //! sets of points as bits of a word. The loop visits open points alone, and
 //! every test of two points is a bit.
 
-use crate::baseline::{get, place, put};
 use crate::plate::{check_make, write_plate, Points, PLACES};
+use crate::table::{get, place, put};
 
 /// Arrays are longer than needed, so that an index of six bits is in range.
 const LONG: usize = 64;
