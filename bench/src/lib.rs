@@ -1,5 +1,5 @@
-//! The yardstick of the speed comparison: the plate maker in plain Rust, and
-//! the sheets that it and the proved library are timed on.
+//! What the proved library is timed beside: two plate makers in plain Rust, one
+//! with the proved library's loops; and the sheets that all are timed on.
 
 pub mod baseline;
 pub mod masks;

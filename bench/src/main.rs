@@ -51,7 +51,7 @@ fn proved(sheet: &[u8], output: &mut [u8], workspace: &mut [u16]) -> Result<usiz
 }
 
 type Make = fn(&[u8], &mut [u8], &mut [u16]) -> Result<usize, u8>;
-/// The yardstick, the proved library, and a faster Rust maker.
+/// Rust with the proved library's loops, the proved library, and the other Rust maker.
 const MAKERS: [Make; 3] = [baseline::make, proved, masks::make];
 const RUST: usize = 0;
 const PROVED: usize = 1;

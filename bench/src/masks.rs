@@ -1,6 +1,6 @@
-//! A variant of the yardstick: the same recurrence, table and recovery, with
-//! sets of points as bits of a word. The loop visits open points alone, and
-//! every test of two points is a bit.
+//! Another maker by the same recurrence: the whole table is filled from small
+//! slabs to great ones, with sets of points as bits of a word. The loop visits
+//! open points alone, and every test of two points is a bit.
 
 use crate::plate::{check_make, write_plate, Points, PLACES};
 use crate::table::{get, place, put};

@@ -3,11 +3,14 @@
 
 use crate::plate::PLACES;
 
-const SUMS: usize = PLACES + 1;
+const SUMS: usize = PLACES + 2;
 /// The lesser numbers' sum, for each number: 0, 0, 1, 3, 6, …
 static TRI: [u32; SUMS] = sums(sums([1; SUMS]));
 /// The same of the triangular numbers: 0, 0, 0, 1, 4, 10, …
 static TET: [u32; SUMS] = sums(TRI);
+
+/// How many places there are: those of 32 points.
+pub(crate) const ENTRIES: usize = TET[SUMS - 1] as usize;
 
 const fn sums(of: [u32; SUMS]) -> [u32; SUMS] {
     let mut all = [0; SUMS];
@@ -23,6 +26,11 @@ const fn sums(of: [u32; SUMS]) -> [u32; SUMS] {
 #[inline(always)]
 pub(crate) fn place(a: usize, b: usize, q: usize) -> usize {
     (TET[b + 1] + TRI[a + 1]) as usize + q
+}
+
+/// The places of the slabs of n points are those below this.
+pub(crate) fn places(n: usize) -> usize {
+    TET[n + 3] as usize
 }
 
 /// The number at a place.

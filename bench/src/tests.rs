@@ -1,4 +1,4 @@
-//! The yardstick against a search over all choices, by the conflicts of pairs.
+//! The Rust makers against a search over all choices, by the conflicts of pairs.
 
 use crate::plate::WORKSPACE;
 use crate::sheets::{any, families, sheet, Random};
