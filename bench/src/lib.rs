@@ -4,6 +4,8 @@
 pub mod baseline;
 pub mod masks;
 pub mod plate;
+#[cfg(feature = "proved")]
+pub mod proved;
 pub mod sheets;
 mod table;
 

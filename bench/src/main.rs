@@ -3,7 +3,7 @@
 
 use bench::plate::{MOST, WORKSPACE};
 use bench::sheets::{families, Family, Random};
-use bench::{baseline, masks};
+use bench::{baseline, masks, proved};
 use std::hint::black_box;
 use std::process::ExitCode;
 use std::time::{Duration, Instant};
@@ -12,47 +12,9 @@ const SHEETS: usize = 200;
 const ROUNDS: usize = 40;
 const OUTPUT: usize = 12 + 8 * MOST;
 
-/// Number 0 and the written length, or a refusal's number and 0.
-#[repr(C)]
-struct MakeResult {
-    number: u32,
-    written: u64,
-}
-
-#[link(name = "plate_export", kind = "static")]
-extern "C" {
-    fn plate_make(
-        sheet: *const u8,
-        sheet_len: usize,
-        output: *mut u8,
-        output_len: usize,
-        workspace: *mut u16,
-        workspace_len: usize,
-    ) -> MakeResult;
-}
-
-fn proved(sheet: &[u8], output: &mut [u8], workspace: &mut [u16]) -> Result<usize, u8> {
-    // Each pointer comes with its own slice's length, and the call keeps none.
-    let result = unsafe {
-        plate_make(
-            sheet.as_ptr(),
-            sheet.len(),
-            output.as_mut_ptr(),
-            output.len(),
-            workspace.as_mut_ptr(),
-            workspace.len(),
-        )
-    };
-    match result.number {
-        0 => Ok(result.written as usize),
-        number if result.written == 0 => Err(u8::try_from(number).unwrap_or(0)),
-        _ => Err(0),
-    }
-}
-
 type Make = fn(&[u8], &mut [u8], &mut [u16]) -> Result<usize, u8>;
 /// Rust with the proved library's loops, the proved library, and the other Rust maker.
-const MAKERS: [Make; 3] = [baseline::make, proved, masks::make];
+const MAKERS: [Make; 3] = [baseline::make, proved::make, masks::make];
 const RUST: usize = 0;
 const PROVED: usize = 1;
 const MASKS: usize = 2;

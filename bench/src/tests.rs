@@ -1,11 +1,19 @@
-//! The Rust makers against a search over all choices, by the conflicts of pairs.
+//! The makers against a search over all choices, by the conflicts of pairs. With
+//! the feature `proved` the proved library is one of the makers.
 
 use crate::plate::WORKSPACE;
+#[cfg(feature = "proved")]
+use crate::proved;
 use crate::sheets::{any, families, sheet, Random};
 use crate::{baseline, masks};
 
 type Make = fn(&[u8], &mut [u8], &mut [u16]) -> Result<usize, u8>;
-const MAKERS: [Make; 2] = [baseline::make, masks::make];
+const MAKERS: &[Make] = &[
+    baseline::make,
+    masks::make,
+    #[cfg(feature = "proved")]
+    proved::make,
+];
 
 fn made(make: Make, sheet: &[u8]) -> Result<Vec<u8>, u8> {
     let mut output = vec![0xa5; 300];
@@ -80,7 +88,7 @@ fn p1() {
         1, 20, 0, 10, 0, 4, 0, 2, 0, 3, 17, 0, 2, 0, 3, 0, 18, 0, 4, 0, 4, 0, 19, 0, 10, 0, 7, 0,
     ];
     for make in MAKERS {
-        let plate = made(make, &sheet).unwrap();
+        let plate = made(*make, &sheet).unwrap();
         assert_eq!(plate[28..], [2, 1, 2, 1, 0, 0]);
     }
 }
@@ -106,7 +114,7 @@ fn best_of_all_choices() {
         };
         let best = best(&bytes);
         for make in MAKERS {
-            assert_eq!(count_of(&bytes, &made(make, &bytes).unwrap()), best);
+            assert_eq!(count_of(&bytes, &made(*make, &bytes).unwrap()), best);
         }
     }
 }
@@ -116,8 +124,9 @@ fn families_are_made() {
     for family in families(20) {
         for bytes in &family.sheets {
             assert_eq!(usize::from(bytes[9]), family.points);
-            let counts = MAKERS.map(|make| count_of(bytes, &made(make, bytes).unwrap()));
-            assert!(counts.iter().all(|count| *count == counts[0]));
+            let count = |make: &Make| count_of(bytes, &made(*make, bytes).unwrap());
+            let first = count(&MAKERS[0]);
+            assert!(MAKERS.iter().all(|make| count(make) == first));
         }
     }
 }
