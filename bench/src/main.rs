@@ -2,7 +2,7 @@
 //! same sheets. Exit status 1 if their results disagree.
 
 use bench::plate::{MOST, WORKSPACE};
-use bench::sheets::{families, Family, Random};
+use bench::sheets::{families, Family, Random, SIZES};
 use bench::{baseline, masks, proved};
 use std::hint::black_box;
 use std::process::ExitCode;
@@ -116,7 +116,7 @@ fn main() -> ExitCode {
     let mut workspace = vec![0; WORKSPACE];
     let mut wrong = 0;
     let mut random = Vec::new();
-    for family in families(SHEETS) {
+    for family in SIZES.into_iter().flat_map(|n| families(n, SHEETS)) {
         wrong += disagreements(&family);
         let best = times(&family, &mut output, &mut workspace);
         println!(

@@ -1,6 +1,7 @@
 //! Seeded families of sheets.
 
-use crate::plate::MOST;
+/// How many points the sheets of a family have.
+pub const SIZES: [usize; 3] = [8, 16, 32];
 
 /// A small generator of numbers (splitmix64).
 pub struct Random(u64);
@@ -86,28 +87,28 @@ pub fn any(random: &mut Random, n: usize) -> Vec<u8> {
 }
 
 /// Every row taken, labels several rows high.
-fn dense(random: &mut Random) -> Vec<u8> {
-    let map = (random.within(24, 96), MOST);
+fn dense(random: &mut Random, n: usize) -> Vec<u8> {
+    let map = (random.within(24, 96), n);
     let label = (random.within(4, 24), random.within(2, 8));
-    let points = scattered(random, MOST, map);
+    let points = scattered(random, n, map);
     sheet(random, map, label, points)
 }
 
 /// Small labels on the greatest map.
-fn sparse(random: &mut Random) -> Vec<u8> {
+fn sparse(random: &mut Random, n: usize) -> Vec<u8> {
     let map = (4096, 4096);
     let label = (random.within(8, 64), random.within(8, 32));
-    let points = scattered(random, MOST, map);
+    let points = scattered(random, n, map);
     sheet(random, map, label, points)
 }
 
 /// All points in one column, apart from each other by up to twice the height.
-fn one_column(random: &mut Random) -> Vec<u8> {
+fn one_column(random: &mut Random, n: usize) -> Vec<u8> {
     let map = (1024, 4096);
     let label = (random.within(1, 256), random.within(1, 16));
     let column = random.within(0, map.0 - 1);
     let mut row = 0;
-    let points = (0..MOST)
+    let points = (0..n)
         .map(|_| {
             row += random.within(1, 2 * label.1);
             (column, row)
@@ -117,23 +118,23 @@ fn one_column(random: &mut Random) -> Vec<u8> {
 }
 
 /// A staircase, its steps from one to many to a label.
-fn staircase(random: &mut Random, up_left: bool) -> Vec<u8> {
+fn staircase(random: &mut Random, n: usize, up_left: bool) -> Vec<u8> {
     let map = (4096, 4096);
     let (across, up) = (random.within(1, 16), random.within(1, 16));
     let label = (
         random.within(1, (24 * across).min(256)),
         random.within(1, (24 * up).min(256)),
     );
-    let points = (0..MOST)
-        .map(|i| (if up_left { MOST - 1 - i } else { i } * across, i * up))
+    let points = (0..n)
+        .map(|i| (if up_left { n - 1 - i } else { i } * across, i * up))
         .collect();
     sheet(random, map, label, points)
 }
 
 /// Labels of one size, on maps from crowded to wide.
-fn labels_of(random: &mut Random, side: usize) -> Vec<u8> {
-    let map = (random.within(MOST, 4096), random.within(MOST, 4096));
-    let points = scattered(random, MOST, map);
+fn labels_of(random: &mut Random, n: usize, side: usize) -> Vec<u8> {
+    let map = (random.within(n, 4096), random.within(n, 4096));
+    let points = scattered(random, n, map);
     sheet(random, map, (side, side), points)
 }
 
@@ -144,29 +145,29 @@ pub struct Family {
     pub sheets: Vec<Vec<u8>>,
 }
 
-/// All families, of so many sheets each; the same at every call.
-pub fn families(each: usize) -> Vec<Family> {
-    type Maker = fn(&mut Random) -> Vec<u8>;
-    let makers: [(&str, usize, Maker); 10] = [
-        ("dense", MOST, dense),
-        ("sparse", MOST, sparse),
-        ("one column", MOST, one_column),
-        ("staircase up left", MOST, |r| staircase(r, true)),
-        ("staircase up right", MOST, |r| staircase(r, false)),
-        ("labels of 1 by 1", MOST, |r| labels_of(r, 1)),
-        ("labels of 256 by 256", MOST, |r| labels_of(r, 256)),
-        ("random", 8, |r| any(r, 8)),
-        ("random", 16, |r| any(r, 16)),
-        ("random", 32, |r| any(r, 32)),
-    ];
-    let family = |(seed, (name, points, make)): (u64, (&'static str, usize, Maker))| {
+/// A sheet of n points.
+type Draw = fn(&mut Random, usize) -> Vec<u8>;
+
+const FAMILIES: [(&str, Draw); 8] = [
+    ("dense", dense),
+    ("sparse", sparse),
+    ("one column", one_column),
+    ("staircase up left", |r, n| staircase(r, n, true)),
+    ("staircase up right", |r, n| staircase(r, n, false)),
+    ("labels of 1 by 1", |r, n| labels_of(r, n, 1)),
+    ("labels of 256 by 256", |r, n| labels_of(r, n, 256)),
+    ("random", any),
+];
+
+/// All families with n points, of so many sheets each; the same at every call.
+pub fn families(n: usize, each: usize) -> impl Iterator<Item = Family> {
+    (1..).zip(FAMILIES).map(move |(seed, (name, draw))| {
         let mut random = Random::new(seed);
-        let sheets = (0..each).map(|_| make(&mut random)).collect();
+        let sheets = (0..each).map(|_| draw(&mut random, n)).collect();
         Family {
             name,
-            points,
+            points: n,
             sheets,
         }
-    };
-    (1..).zip(makers).map(family).collect()
+    })
 }

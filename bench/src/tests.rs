@@ -4,7 +4,7 @@
 use crate::plate::WORKSPACE;
 #[cfg(feature = "proved")]
 use crate::proved;
-use crate::sheets::{any, families, sheet, Random};
+use crate::sheets::{any, families, sheet, Random, SIZES};
 use crate::{baseline, masks};
 
 type Make = fn(&[u8], &mut [u8], &mut [u16]) -> Result<usize, u8>;
@@ -121,7 +121,7 @@ fn best_of_all_choices() {
 
 #[test]
 fn families_are_made() {
-    for family in families(20) {
+    for family in SIZES.into_iter().flat_map(|n| families(n, 40)) {
         for bytes in &family.sheets {
             assert_eq!(usize::from(bytes[9]), family.points);
             let count = |make: &Make| count_of(bytes, &made(*make, bytes).unwrap());
