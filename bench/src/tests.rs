@@ -15,13 +15,28 @@ const MAKERS: &[Make] = &[
     proved::make,
 ];
 
-fn made(make: Make, sheet: &[u8]) -> Result<Vec<u8>, u8> {
+/// Workspaces as they may come: zeros, as a call leaves them; ones and greatest
+/// numbers, each of which would be a note; and any numbers.
+fn workspaces() -> [Vec<u16>; 4] {
+    let mut random = Random::new(16);
+    let any = std::iter::repeat_with(|| random.within(0, 0xffff) as u16);
+    let length = WORKSPACE + 3;
+    [
+        vec![0; length],
+        vec![1; length],
+        vec![0xffff; length],
+        any.take(length).collect(),
+    ]
+}
+
+/// Checks what a call leaves in a lent output and workspace; the plate.
+fn made(make: Make, sheet: &[u8], lent: &[u16]) -> Result<Vec<u8>, u8> {
     let mut output = vec![0xa5; 300];
-    let mut workspace = vec![0x5a5a; WORKSPACE + 3];
+    let mut workspace = lent.to_vec();
     let answer = make(sheet, &mut output, &mut workspace);
     let Ok(written) = answer else {
         assert!(output.iter().all(|&byte| byte == 0xa5));
-        assert!(workspace.iter().all(|&number| number == 0x5a5a));
+        assert_eq!(workspace, lent);
         return answer.map(|_| vec![]);
     };
     assert!(output[written..].iter().all(|&byte| byte == 0xa5));
@@ -88,43 +103,50 @@ fn p1() {
         1, 20, 0, 10, 0, 4, 0, 2, 0, 3, 17, 0, 2, 0, 3, 0, 18, 0, 4, 0, 4, 0, 19, 0, 10, 0, 7, 0,
     ];
     for make in MAKERS {
-        let plate = made(*make, &sheet).unwrap();
-        assert_eq!(plate[28..], [2, 1, 2, 1, 0, 0]);
+        for lent in workspaces() {
+            let plate = made(*make, &sheet, &lent).unwrap();
+            assert_eq!(plate[28..], [2, 1, 2, 1, 0, 0]);
+        }
     }
+}
+
+/// A tiny map, where labels meet in every way.
+fn tiny(random: &mut Random, n: usize) -> Vec<u8> {
+    let map = (random.within(1, 8), random.within(n.max(1), n + 3));
+    let label = (random.within(1, 6), random.within(1, 5));
+    let mut rows: Vec<usize> = (0..map.1).collect();
+    while rows.len() > n {
+        rows.remove(random.within(0, rows.len() - 1));
+    }
+    let column = |row| (random.within(0, map.0 - 1), row);
+    let points = rows.into_iter().map(column).collect();
+    sheet(random, map, label, points)
 }
 
 #[test]
 fn best_of_all_choices() {
     let mut random = Random::new(2021);
+    let workspaces = workspaces();
     for round in 0..6000 {
         let n = if round % 20 == 0 { 10 } else { round % 8 };
-        let bytes = if round % 2 == 0 {
-            any(&mut random, n)
-        } else {
-            // Tiny maps, where labels meet in every way.
-            let map = (random.within(1, 8), random.within(n.max(1), n + 3));
-            let label = (random.within(1, 6), random.within(1, 5));
-            let mut rows: Vec<usize> = (0..map.1).collect();
-            while rows.len() > n {
-                rows.remove(random.within(0, rows.len() - 1));
-            }
-            let column = |row| (random.within(0, map.0 - 1), row);
-            let points = rows.into_iter().map(column).collect();
-            sheet(&mut random, map, label, points)
-        };
+        let draw = if round % 2 == 0 { any } else { tiny };
+        let bytes = draw(&mut random, n);
         let best = best(&bytes);
         for make in MAKERS {
-            assert_eq!(count_of(&bytes, &made(*make, &bytes).unwrap()), best);
+            let lent = &workspaces[random.within(0, 3)];
+            let plate = made(*make, &bytes, lent).unwrap();
+            assert_eq!(count_of(&bytes, &plate), best);
         }
     }
 }
 
 #[test]
 fn families_are_made() {
+    let [zeros, ..] = workspaces();
     for family in SIZES.into_iter().flat_map(|n| families(n, 40)) {
         for bytes in &family.sheets {
             assert_eq!(usize::from(bytes[9]), family.points);
-            let count = |make: &Make| count_of(bytes, &made(*make, bytes).unwrap());
+            let count = |make: &Make| count_of(bytes, &made(*make, bytes, &zeros).unwrap());
             let first = count(&MAKERS[0]);
             assert!(MAKERS.iter().all(|make| count(make) == first));
         }
@@ -132,31 +154,62 @@ fn families_are_made() {
 }
 
 #[test]
+fn a_workspace_may_hold_anything() {
+    let workspaces = workspaces();
+    for family in SIZES.into_iter().flat_map(|n| families(n, 10)) {
+        for bytes in &family.sheets {
+            for make in MAKERS {
+                let plates = workspaces.each_ref().map(|lent| made(*make, bytes, lent));
+                assert!(plates[0].is_ok());
+                assert!(plates.iter().all(|plate| *plate == plates[0]));
+            }
+        }
+    }
+}
+
+#[test]
 fn refusals() {
     let good = any(&mut Random::new(7), 3);
-    let refused = |at: usize, value: u8| {
-        let mut bytes = good.clone();
-        bytes[at] = value;
-        baseline::make(&bytes, &mut [0; 300], &mut [0; WORKSPACE])
-    };
-    assert_eq!(baseline::make(&good[..9], &mut [], &mut []), Err(11));
-    assert_eq!(refused(0, 2), Err(12));
-    assert_eq!(refused(2, 17), Err(13));
-    assert_eq!(refused(8, 2), Err(14));
-    assert_eq!(refused(9, 33), Err(15));
-    assert_eq!(refused(9, 4), Err(16));
-    assert_eq!(refused(11, 0x28), Err(17));
-    assert_eq!(refused(15, 0x20), Err(18));
-    let mut bytes = good.clone();
-    bytes.copy_within(10..12, 16);
-    assert_eq!(made(baseline::make, &bytes), Err(19));
-    bytes.clone_from(&good);
-    bytes.copy_within(14..16, 26);
-    assert_eq!(made(baseline::make, &bytes), Err(20));
-    let mut workspace = [0; WORKSPACE];
-    let answer = baseline::make(&good, &mut [0; 35], &mut workspace);
-    assert_eq!(answer, Err(21));
-    let answer = baseline::make(&good, &mut [0; 36], &mut workspace[1..]);
-    assert_eq!(answer, Err(22));
-    assert!(baseline::make(&good, &mut [0; 36], &mut workspace).is_ok());
+    let workspaces = workspaces();
+    for make in MAKERS {
+        let asked = |bytes: &[u8]| {
+            let answers = workspaces.each_ref().map(|lent| made(*make, bytes, lent));
+            answers.map(|answer| answer.err())
+        };
+        let changed = |at: usize, value: u8| {
+            let mut bytes = good.clone();
+            bytes[at] = value;
+            asked(&bytes)
+        };
+        let copied = |from: usize, to: usize| {
+            let mut bytes = good.clone();
+            bytes.copy_within(from..from + 2, to);
+            asked(&bytes)
+        };
+        assert_eq!(asked(&good[..9]), [Some(11); 4]);
+        assert_eq!(changed(0, 2), [Some(12); 4]);
+        assert_eq!(changed(2, 17), [Some(13); 4]);
+        assert_eq!(changed(8, 2), [Some(14); 4]);
+        assert_eq!(changed(9, 33), [Some(15); 4]);
+        assert_eq!(changed(9, 4), [Some(16); 4]);
+        assert_eq!(changed(11, 0x28), [Some(17); 4]);
+        assert_eq!(changed(15, 0x20), [Some(18); 4]);
+        assert_eq!(copied(10, 16), [Some(19); 4]);
+        assert_eq!(copied(14, 26), [Some(20); 4]);
+        assert_eq!(asked(&good), [None; 4]);
+    }
+}
+
+#[test]
+fn buffers_too_small() {
+    let sheet = any(&mut Random::new(7), 3);
+    for make in MAKERS {
+        let mut workspace = vec![7; WORKSPACE];
+        let mut output = [0xa5; 36];
+        assert_eq!(make(&sheet, &mut output[1..], &mut workspace), Err(21));
+        assert_eq!(make(&sheet, &mut output, &mut workspace[1..]), Err(22));
+        assert_eq!(output, [0xa5; 36]);
+        assert_eq!(workspace, [7; WORKSPACE]);
+        assert!(make(&sheet, &mut output, &mut workspace).is_ok());
+    }
 }
