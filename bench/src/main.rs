@@ -1,9 +1,11 @@
-//! Times the proved plate maker beside plain Rust, in one process and on the
-//! same sheets. Exit status 1 if their results disagree.
+//! Times the proved library beside plain Rust, in one process and on the same
+//! sheets. Exit status 1 if their results disagree.
 
-use bench::plate::{MOST, WORKSPACE};
+use bench::plate::{self, MOST, WORKSPACE};
+use bench::proved::{self, Desk};
 use bench::sheets::{families, Family, Random, SIZES};
-use bench::{baseline, masks, proved};
+use bench::{baseline, masks};
+use std::array::from_fn;
 use std::hint::black_box;
 use std::process::ExitCode;
 use std::time::{Duration, Instant};
@@ -13,21 +15,27 @@ const ROUNDS: usize = 40;
 const OUTPUT: usize = 12 + 8 * MOST;
 
 type Make = fn(&[u8], &mut [u8], &mut [u16]) -> Result<usize, u8>;
-/// Rust with the proved library's loops, the proved library, and the other Rust maker.
+/// Rust with the proved library's loops, the proved library, and the other Rust
+/// maker.
 const MAKERS: [Make; 3] = [baseline::make, proved::make, masks::make];
-const RUST: usize = 0;
-const PROVED: usize = 1;
-const MASKS: usize = 2;
 
-/// What a making with filled buffers leaves: the answer; the plate's sheet
-/// bytes and inside count; whether the rest is as document 01 says.
-fn outcome(make: Make, sheet: &[u8], lent: (usize, usize)) -> (Result<usize, u8>, Vec<u8>, bool) {
-    let mut output = vec![0xa5; lent.0];
-    let mut workspace = vec![0x5a5a; lent.1];
+/// What a making is lent: lengths, and what the workspace comes filled with.
+#[derive(Clone, Copy)]
+struct Lent {
+    output: usize,
+    workspace: usize,
+    filled: u16,
+}
+
+/// What a making leaves: the answer; the plate's sheet bytes and inside count;
+/// whether the rest is as document 01 says.
+fn outcome(make: Make, sheet: &[u8], lent: Lent) -> (Result<usize, u8>, Vec<u8>, bool) {
+    let mut output = vec![0xa5; lent.output];
+    let mut workspace = vec![lent.filled; lent.workspace];
     let answer = make(sheet, &mut output, &mut workspace);
     let (written, left) = match answer {
         Ok(written) => (written, 0),
-        Err(_) => (0, 0x5a5a),
+        Err(_) => (0, lent.filled),
     };
     let clean = written <= output.len()
         && output[written..].iter().all(|&byte| byte == 0xa5)
@@ -37,7 +45,7 @@ fn outcome(make: Make, sheet: &[u8], lent: (usize, usize)) -> (Result<usize, u8>
 }
 
 /// Whether all makers agree on a sheet, the choice left aside.
-fn agree(sheet: &[u8], lent: (usize, usize)) -> bool {
+fn agree(sheet: &[u8], lent: Lent) -> bool {
     let outcomes = MAKERS.map(|make| outcome(make, sheet, lent));
     outcomes
         .iter()
@@ -67,80 +75,187 @@ fn disagreements(family: &Family) -> usize {
     let mut count = 0;
     for sheet in &family.sheets {
         let least = 12 + 8 * family.points;
-        let lent = (
-            random.within(least - 1, least + 20),
-            random.within(WORKSPACE - 1, WORKSPACE + 8),
-        );
+        let enough = Lent {
+            output: OUTPUT,
+            workspace: WORKSPACE,
+            filled: [0, 1, 0x5a5a, 0xffff][random.within(0, 3)],
+        };
+        let scarce = Lent {
+            output: random.within(least - 1, least + 20),
+            workspace: random.within(WORKSPACE - 1, WORKSPACE + 8),
+            ..enough
+        };
         let broken = damaged(&mut random, sheet);
-        for (bytes, lent) in [(sheet, (OUTPUT, WORKSPACE)), (sheet, lent), (&broken, lent)] {
+        for (bytes, lent) in [(sheet, enough), (sheet, scarce), (&broken, scarce)] {
             count += usize::from(!agree(bytes, lent));
         }
     }
     count
 }
 
-/// Each maker's microseconds a sheet, every sheet at its best round. The makers
-/// take turns on each sheet, and each round begins with another one.
-fn times(family: &Family, output: &mut [u8], workspace: &mut [u16]) -> [f64; 3] {
-    let count = family.sheets.len();
-    let mut best = vec![[Duration::MAX; 3]; count];
+/// Microseconds a sheet for each of N calls, every sheet at its best round. The
+/// calls take turns, and each round begins with another one. In a round of turns
+/// each call has another sheet: of two calls that share code, the second would
+/// else run with its branches predicted by the first.
+fn times<const N: usize>(sheets: usize, mut call: impl FnMut(usize, usize)) -> [f64; N] {
+    let mut best = vec![[Duration::MAX; N]; sheets];
     for round in 0..ROUNDS {
-        for (sheet, best) in family.sheets.iter().zip(&mut best) {
-            for turn in 0..MAKERS.len() {
-                let which = (round + turn) % MAKERS.len();
-                let make = black_box(MAKERS[which]);
+        for step in 0..sheets {
+            for turn in 0..N {
+                let which = (round + turn) % N;
+                let sheet = (step + which * sheets / N) % sheets;
                 let start = Instant::now();
-                let _ = black_box(make(black_box(sheet), output, workspace));
-                best[which] = start.elapsed().min(best[which]);
+                call(which, sheet);
+                best[sheet][which] = start.elapsed().min(best[sheet][which]);
             }
         }
     }
-    [RUST, PROVED, MASKS].map(|which| {
+    from_fn(|which| {
         let whole: Duration = best.iter().map(|best| best[which]).sum();
-        whole.as_secs_f64() * 1e6 / count as f64
+        whole.as_secs_f64() * 1e6 / sheets as f64
     })
 }
 
-fn main() -> ExitCode {
-    println!("Making a plate, microseconds a sheet: {SHEETS} sheets a family, each at the best of");
-    println!("{ROUNDS} rounds, the makers by turns in one process. The ratio is proved to Rust.");
-    println!("Buffers are allocated once and not cleared before a call: the workspace is zero,");
-    println!("as the call before left it. \"Rust\" has the proved library's loops; \"masks\" is");
-    println!("another Rust maker of the same recurrence, which keeps sets of points as bits.");
+/// The times of the makers, in their order.
+fn maker_times(family: &Family) -> [f64; 3] {
+    let mut output = [0; OUTPUT];
+    let mut workspace = vec![0; WORKSPACE];
+    times(family.sheets.len(), |which, sheet| {
+        let make = black_box(MAKERS[which]);
+        let sheet = black_box(&family.sheets[sheet]);
+        let _ = black_box(make(sheet, &mut output, &mut workspace));
+    })
+}
+
+/// What the other calls are given: a sheet, its plate, and a desk that has it
+/// loaded.
+struct Given {
+    sheet: Vec<u8>,
+    plate: Vec<u8>,
+    desk: Desk,
+}
+
+impl Given {
+    fn new(sheet: Vec<u8>) -> Given {
+        let mut workspace = vec![0; WORKSPACE];
+        let mut plate = vec![0; OUTPUT];
+        let written = proved::make(&sheet, &mut plate, &mut workspace).expect("a good sheet");
+        plate.truncate(written);
+        let (desk, loaded) = proved::load(&sheet, &mut workspace);
+        assert!(loaded);
+        Given { sheet, plate, desk }
+    }
+
+    /// The plate's inside section, as a list to be marked.
+    fn list(&self) -> &[u8] {
+        let rest = &self.plate[self.sheet.len()..];
+        &rest[..1 + usize::from(rest[0])]
+    }
+
+    /// Whether no call is refused, and the list is valid and best.
+    fn accepted(&self) -> bool {
+        let list = self.list();
+        proved::check_sheet(&self.sheet)
+            && proved::read_plate(&self.plate) == Some(&list[1..])
+            && proved::mark(self.desk.clone(), list).1 == Some((list[0], 0))
+    }
+}
+
+/// The times of check_sheet in Rust, and of the proved check_sheet, read_plate,
+/// mark and load.
+fn call_times(given: &[Given]) -> [f64; 5] {
+    let mut workspace = vec![0; WORKSPACE];
+    times(given.len(), |which, at| {
+        let given = black_box(&given[at]);
+        match which {
+            0 => _ = black_box(plate::check_sheet(&given.sheet)),
+            1 => _ = black_box(proved::check_sheet(&given.sheet)),
+            2 => _ = black_box(proved::read_plate(&given.plate)),
+            3 => _ = black_box(proved::mark(given.desk.clone(), given.list())),
+            _ => _ = black_box(proved::load(&given.sheet, &mut workspace)),
+        }
+    })
+}
+
+/// Prints the table of the other calls.
+fn print_calls([rust, check, read, mark, load]: [f64; 5]) {
+    println!("{:<27}{:>8}{:>8}{:>7}", "call", "Rust", "proved", "/Rust");
+    let ratio = check / rust;
+    println!("{:<27}{rust:>8.2}{check:>8.2}{ratio:>7.2}", "check_sheet");
+    for (name, time) in [("read_plate", read), ("mark", mark), ("load", load)] {
+        println!("{name:<27}{:>8}{time:>8.2}", "");
+    }
+}
+
+/// Prints a family's line of the table.
+fn print_makers(family: &Family, [rust, proved, masks]: [f64; 3]) {
+    println!(
+        "{:<21}{:>6}{rust:>8.2}{proved:>8.2}{:>7.2}{masks:>8.2}{:>8.2}",
+        family.name,
+        family.points,
+        proved / rust,
+        proved / masks,
+    );
+}
+
+/// Prints how the times of the random family grow with the number of points.
+fn print_growth(random: &[(usize, [f64; 3])]) {
+    for pair in random.windows(2) {
+        let [(less, before), (more, after)] = [pair[0], pair[1]];
+        let [rust, proved] = [after[0] / before[0], after[1] / before[1]];
+        print!("growth, random, {less} to {more} points: Rust x{rust:.1}, ");
+        println!("proved x{proved:.1} (n³ would be x8)");
+    }
+}
+
+/// Times the makers on all families, and prints the table; how often they
+/// disagree.
+fn makers() -> usize {
+    println!("Making a plate, microseconds a sheet: {SHEETS} sheets a family, each at the best");
+    println!("of {ROUNDS} rounds, the makers by turns in one process. Buffers are not cleared");
+    println!("before a call: the workspace is zero, as the call before left it. \"Rust\" has");
+    println!("the proved library's loops; \"masks\" is another Rust maker of the same");
+    println!("recurrence, which fills the whole table and keeps sets of points as bits.");
+    println!("/Rust and /masks are the proved maker's time divided by theirs.");
     println!();
     println!(
-        "{:<21}{:>6}{:>9}{:>9}{:>8}{:>9}",
-        "family", "points", "Rust", "proved", "ratio", "masks"
+        "{:<21}{:>6}{:>8}{:>8}{:>7}{:>8}{:>8}",
+        "family", "points", "Rust", "proved", "/Rust", "masks", "/masks"
     );
-    let mut output = vec![0; OUTPUT];
-    let mut workspace = vec![0; WORKSPACE];
     let mut wrong = 0;
     let mut random = Vec::new();
     for family in SIZES.into_iter().flat_map(|n| families(n, SHEETS)) {
         wrong += disagreements(&family);
-        let best = times(&family, &mut output, &mut workspace);
-        println!(
-            "{:<21}{:>6}{:>9.2}{:>9.2}{:>8.2}{:>9.2}",
-            family.name,
-            family.points,
-            best[RUST],
-            best[PROVED],
-            best[PROVED] / best[RUST],
-            best[MASKS]
-        );
+        let best = maker_times(&family);
+        print_makers(&family, best);
         if family.name == "random" {
             random.push((family.points, best));
+            println!();
         }
     }
+    print_growth(&random);
+    wrong
+}
+
+/// Times the other calls on dense sheets, and prints the table; how many sheets
+/// get a wrong answer.
+fn other_calls() -> usize {
+    println!("Other calls, on the dense sheets of {MOST} points. read_plate: the plate that was");
+    println!("made. mark: that plate's inside list, at a desk with the sheet loaded; it is");
+    println!("valid, so every two points are tested. load: the sheet, at a fresh desk.");
     println!();
-    for pair in random.windows(2) {
-        let [(less, before), (more, after)] = [pair[0], pair[1]];
-        println!(
-            "growth, random, {less} to {more} points: Rust x{:.1}, proved x{:.1} (n³ would be x8)",
-            after[RUST] / before[RUST],
-            after[PROVED] / before[PROVED]
-        );
-    }
+    let dense = families(MOST, SHEETS).find(|family| family.name == "dense");
+    let sheets = dense.expect("a family of that name").sheets.into_iter();
+    let given: Vec<Given> = sheets.map(Given::new).collect();
+    print_calls(call_times(&given));
+    given.iter().filter(|given| !given.accepted()).count()
+}
+
+fn main() -> ExitCode {
+    let mut wrong = makers();
+    println!();
+    wrong += other_calls();
+    println!();
     println!("disagreements: {wrong}");
     ExitCode::from(u8::from(wrong != 0))
 }

@@ -1,6 +1,36 @@
 //! The proved library through its Rust wrapper: the only use of the wrapper.
 
+use plates::Verdict;
+
+pub use plates::Desk;
+
 /// Makes a best plate; its length, or the number of the refusal.
 pub fn make(sheet: &[u8], output: &mut [u8], workspace: &mut [u16]) -> Result<usize, u8> {
     plates::make(sheet, output, workspace)
+}
+
+/// Whether a sheet is accepted.
+pub fn check_sheet(sheet: &[u8]) -> bool {
+    plates::check_sheet(sheet).is_ok()
+}
+
+/// The inside list of a plate that is accepted.
+pub fn read_plate(plate: &[u8]) -> Option<&[u8]> {
+    plates::read_plate(plate).ok()
+}
+
+/// A fresh desk after a load, and whether the sheet was accepted.
+pub fn load(sheet: &[u8], workspace: &mut [u16]) -> (Desk, bool) {
+    let (desk, answer) = Desk::new().load(sheet, workspace);
+    (desk, answer.is_ok())
+}
+
+/// The desk after a mark, and the count and the shortfall of a valid list.
+pub fn mark(desk: Desk, list: &[u8]) -> (Desk, Option<(u8, u8)>) {
+    let (desk, answer) = desk.mark(list);
+    let valid = match answer.map(|marked| marked.verdict) {
+        Ok(Verdict::Valid { count, shortfall }) => Some((count, shortfall)),
+        _ => None,
+    };
+    (desk, valid)
 }
