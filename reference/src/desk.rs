@@ -100,8 +100,7 @@ impl Desk {
             },
             None => Verdict::Valid {
                 count: entries.len(),
-                // A valid list never has more than the best count.
-                shortfall: best.saturating_sub(entries.len()),
+                shortfall: shortfall(*best, entries.len()),
             },
         };
         self.last_number += 1;
@@ -122,4 +121,12 @@ impl Desk {
             .as_ref()
             .map(|(sheet, best)| (sheet.points().len(), *best))
     }
+}
+
+/// The best count less a valid list's count.
+///
+/// Panics if the list has more than the best count: the best would not be the best.
+fn shortfall(best: usize, count: usize) -> usize {
+    let shortfall = best.checked_sub(count);
+    shortfall.expect("a valid list has more points than the reference's best")
 }

@@ -1,8 +1,10 @@
 //! A reference for call-sign plates, written from document 01 alone.
 //!
 //! Whether a choice is valid is decided by marking pixels: every point's pixels are written down
-//! as runs along rows, and two points clash if their runs share a pixel. No function here panics,
-//! whatever bytes it is given.
+//! as runs along rows, and two points clash if their runs share a pixel.
+//!
+//! Whatever bytes a call is given, it ends with an answer. A panic is a shortfall of the reference
+//! itself: it is loud, so that nothing is compared with an answer that isn't one.
 
 #![forbid(unsafe_code)]
 #![warn(missing_docs)]

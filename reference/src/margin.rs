@@ -19,21 +19,29 @@ pub fn outside_positions(sheet: &Sheet, choice: Choice) -> Vec<usize> {
     outside
 }
 
-/// By position: the margin column of each outside point, and nothing for each inside point.
-pub fn margin_columns(sheet: &Sheet, choice: Choice) -> Vec<Option<u8>> {
-    let points = sheet.points();
-    let mut columns = vec![None; points.len()];
+/// The outside positions, from the highest row down, each with its margin column.
+pub fn outside_pairs(sheet: &Sheet, choice: Choice) -> Vec<(usize, u8)> {
+    let mut pairs = Vec::new();
     let mut previous: Option<(u16, u8)> = None;
     for position in outside_positions(sheet, choice) {
-        let row = points[position].row;
+        let row = sheet.points()[position].row;
         let column = match previous {
             Some((previous_row, previous_column)) if previous_row - row < sheet.label_height() => {
                 previous_column + 1
             }
             _ => 0,
         };
-        columns[position] = Some(column);
+        pairs.push((position, column));
         previous = Some((row, column));
+    }
+    pairs
+}
+
+/// By position: the margin column of each outside point, and nothing for each inside point.
+pub fn margin_columns(sheet: &Sheet, choice: Choice) -> Vec<Option<u8>> {
+    let mut columns = vec![None; sheet.points().len()];
+    for (position, column) in outside_pairs(sheet, choice) {
+        columns[position] = Some(column);
     }
     columns
 }

@@ -26,9 +26,7 @@ pub enum ClashKind {
 
 /// The runs of an inside point: its label.
 pub fn inside_runs(sheet: &Sheet, position: usize) -> Vec<Run> {
-    let Some(point) = sheet.points().get(position) else {
-        return Vec::new();
-    };
+    let point = sheet.points()[position];
     let column = i32::from(point.column);
     let row = i32::from(point.row);
     rectangle(sheet, column, row)
@@ -37,9 +35,7 @@ pub fn inside_runs(sheet: &Sheet, position: usize) -> Vec<Run> {
 /// The runs of an outside point in a margin column: its outer label and its leader. They stand
 /// in rising order of row, then of column, and no two of them share a pixel.
 pub fn outside_runs(sheet: &Sheet, position: usize, margin_column: u8) -> Vec<Run> {
-    let Some(point) = sheet.points().get(position) else {
-        return Vec::new();
-    };
+    let point = sheet.points()[position];
     let row = i32::from(point.row);
     let leader_start = -(i32::from(margin_column) * i32::from(sheet.label_width()));
     let leader = Run {

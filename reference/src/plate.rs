@@ -1,6 +1,6 @@
 //! Plates: making their bytes, reading them, the questions of a making, and the printed listing.
 
-use crate::margin::{inside_positions, margin_columns, margin_width, outside_positions};
+use crate::margin::{inside_positions, margin_columns, margin_width, outside_pairs};
 use crate::pixels::valid;
 use crate::sheet::{Choice, Sheet};
 use crate::WORKSPACE_NUMBERS;
@@ -18,18 +18,22 @@ pub struct PlateReading<'a> {
 /// The plate of a choice.
 pub fn plate_bytes(sheet: &Sheet, choice: Choice) -> Vec<u8> {
     let inside = inside_positions(sheet, choice);
-    let outside = outside_positions(sheet, choice);
-    let columns = margin_columns(sheet, choice);
+    let pairs = pair_bytes(sheet, choice);
     // Positions and counts are at most 32, so each fits in a byte.
     let mut bytes = sheet.bytes().to_vec();
     bytes.push(inside.len() as u8);
     bytes.extend(inside.iter().map(|&position| position as u8));
-    bytes.push(outside.len() as u8);
-    for position in outside {
-        bytes.push(position as u8);
-        bytes.push(columns[position].unwrap_or(0));
-    }
+    bytes.push((pairs.len() / 2) as u8);
+    bytes.extend(pairs);
     bytes
+}
+
+/// The outside points in their order: position and margin column, a byte each.
+fn pair_bytes(sheet: &Sheet, choice: Choice) -> Vec<u8> {
+    outside_pairs(sheet, choice)
+        .into_iter()
+        .flat_map(|(position, column)| [position as u8, column])
+        .collect()
 }
 
 /// Reads a plate: the sheet's questions, then 41 to 44.
@@ -60,13 +64,7 @@ fn read(plate: &[u8]) -> Result<&[u8], u8> {
     }
     let choice = Choice::of(inside);
     // The other points in their order and with their columns, as the margin rule has them.
-    let columns = margin_columns(&sheet, choice);
-    let mut expected = Vec::new();
-    for position in outside_positions(&sheet, choice) {
-        expected.push(position as u8);
-        expected.push(columns[position].unwrap_or(0));
-    }
-    if pairs != expected {
+    if pairs != pair_bytes(&sheet, choice) {
         return Err(43);
     }
     if !valid(&sheet, choice) {

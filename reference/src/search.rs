@@ -29,21 +29,22 @@ pub fn best_count(sheet: &Sheet) -> usize {
 }
 
 /// A valid choice with the best count. It has no bits outside the sheet's positions.
+///
+/// Panics if the search's choice isn't valid: it would then be no more than a bound.
 pub fn best_choice(sheet: &Sheet) -> Choice {
-    if sheet.points().len() > TRY_ALL_POINTS {
-        if let Some(choice) = search_best(sheet) {
-            if valid(sheet, choice) {
-                return choice;
-            }
-        }
-        // Not reached: the margin rule keeps outside points apart. Were it otherwise, trying every
-        // choice would still be exact, only slow.
+    if sheet.points().len() <= TRY_ALL_POINTS {
+        return try_all(sheet);
     }
-    try_all(sheet)
+    let choice = search_best(sheet);
+    let valid = valid(sheet, choice);
+    assert!(valid, "the reference's search found a choice with a clash");
+    choice
 }
 
 /// Tries every choice, from the greatest inside count down, and gives the first valid one.
 /// Choices with a clash on the map are passed over by the table; all others are marked in full.
+///
+/// Panics if there is none: the choice with nothing inside is always valid.
 pub fn try_all(sheet: &Sheet) -> Choice {
     let table = Table::of(sheet);
     let n = sheet.points().len();
@@ -59,7 +60,7 @@ pub fn try_all(sheet: &Sheet) -> Choice {
             return choice;
         }
     }
-    Choice::default()
+    panic!("the reference found every choice to clash");
 }
 
 /// Hands every choice of `count` positions below n to `stop`, until `stop` says yes.
@@ -82,16 +83,18 @@ pub fn each_choice(n: usize, count: usize, stop: &mut dyn FnMut(Choice) -> bool)
     extend(n.min(32), 0, count, 0, stop);
 }
 
-/// The exact search. Nothing is found only if every choice has a clash on the map, which never
-/// happens since the choice with nothing inside is always valid.
-pub fn search_best(sheet: &Sheet) -> Option<Choice> {
+/// The exact search, over the map's pixels. It has no limit: it ends with a choice.
+///
+/// Panics if every choice has a clash on the map: the choice with nothing inside is always valid.
+pub fn search_best(sheet: &Sheet) -> Choice {
     let table = Table::of(sheet);
-    let (undecided, inside) = table.settle()?;
+    let settled = table.settle();
+    let (undecided, inside) = settled.expect("the reference's search found a point with no state");
     let mut search = Search {
         table: &table,
         known: HashMap::new(),
     };
-    Some(Choice(inside | search.best(undecided)))
+    Choice(inside | search.best(undecided))
 }
 
 /// States of several points: the points that are inside and the points that are outside.

@@ -87,12 +87,9 @@ pub fn check_sheet(bytes: &[u8]) -> u8 {
     }
 }
 
-/// The two-byte number at a place, low byte first. Bytes that aren't there count as 0; the
-/// questions about the length make sure that this never matters.
+/// The two-byte number at a place, low byte first. The questions about the length come before.
 fn number_at(bytes: &[u8], place: usize) -> u16 {
-    let low = bytes.get(place).copied().unwrap_or(0);
-    let high = bytes.get(place + 1).copied().unwrap_or(0);
-    u16::from_le_bytes([low, high])
+    u16::from_le_bytes([bytes[place], bytes[place + 1]])
 }
 
 fn read(bytes: &[u8], more_may_follow: bool) -> Result<Sheet, u8> {

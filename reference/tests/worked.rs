@@ -35,7 +35,7 @@ fn best_choices(sheet: &Sheet) -> Vec<Choice> {
             assert_eq!(best_count(sheet), count);
             assert!(found.contains(&best_choice(sheet)));
             assert!(found.contains(&try_all(sheet)));
-            assert!(found.contains(&search_best(sheet).unwrap()));
+            assert!(found.contains(&search_best(sheet)));
             return found;
         }
     }
