@@ -135,6 +135,100 @@ fn the_search_agrees_with_trying_every_choice() {
     }
 }
 
+/// Which labels and leaders share a pixel, from sets of pixels: it has nothing of the search.
+struct Conflicts {
+    /// By position: the points whose labels the point's label meets.
+    labels: Vec<u32>,
+    /// By position: the points whose leaders the point's label meets.
+    leaders: Vec<u32>,
+}
+
+impl Conflicts {
+    fn of(sheet: &Sheet) -> Conflicts {
+        let n = sheet.points().len();
+        let everything = Choice(u32::MAX);
+        let labels: Vec<_> = (0..n).map(|p| pixels_of(sheet, everything, p)).collect();
+        // Alone outside, a point is in margin column 0. In another column it marks more or other
+        // pixels left of the map only, where no label of an inside point is.
+        let leaders: Vec<_> = (0..n)
+            .map(|p| pixels_of(sheet, Choice(!(1 << p)), p))
+            .collect();
+        let met = |p: usize, others: &[HashSet<(i32, i32)>]| {
+            (0..n)
+                .filter(|&other| other != p && !labels[p].is_disjoint(&others[other]))
+                .fold(0, |bits, other| bits | 1 << other)
+        };
+        Conflicts {
+            labels: (0..n).map(|p| met(p, &labels)).collect(),
+            leaders: (0..n).map(|p| met(p, &leaders)).collect(),
+        }
+    }
+
+    /// Does no label meet a label or a leader if just these points are inside?
+    fn none_among(&self, inside: u32) -> bool {
+        let mut rest = inside;
+        while rest != 0 {
+            let p = rest.trailing_zeros() as usize;
+            if self.labels[p] & inside != 0 || self.leaders[p] & !inside != 0 {
+                return false;
+            }
+            rest &= rest - 1;
+        }
+        true
+    }
+}
+
+/// The greatest inside count of all valid choices: every one is tried. A choice that would be
+/// the best so far is marked in full, margin included.
+fn best_of_every_choice(sheet: &Sheet) -> u32 {
+    let conflicts = Conflicts::of(sheet);
+    let mut best = None;
+    for inside in 0..1u32 << sheet.points().len() {
+        let count = Some(inside.count_ones());
+        if count > best
+            && conflicts.none_among(inside)
+            && clash_by_pixels(sheet, Choice(inside)).is_none()
+        {
+            best = count;
+        }
+    }
+    best.expect("nothing inside is always valid")
+}
+
+/// A crowded sheet of n points.
+fn crowded(random: &mut Random, n: u16) -> Sheet {
+    let map = (random.between(4, 40), random.between(n, 3 * n));
+    let label = (random.between(1, 9), random.between(1, 9));
+    let bytes = match random.below(3) {
+        0 => random_sheet(random, map, label, n),
+        _ => {
+            let noise = random.between(1, 3 * label.0);
+            falling_sheet(random, map, label, n, noise)
+        }
+    };
+    Sheet::read(&bytes).unwrap()
+}
+
+#[test]
+fn the_search_agrees_with_every_choice_up_to_20_points() {
+    let mut random = Random::new(8);
+    let mut some_inside = 0;
+    for n in 13..=20 {
+        for _ in 0..150 {
+            let sheet = crowded(&mut random, n);
+            assert_eq!(sheet.points().len(), usize::from(n));
+            let searched = search_best(&sheet);
+            let count = searched.0.count_ones();
+            assert_eq!(clash_by_pixels(&sheet, searched), None);
+            assert_eq!(count, best_of_every_choice(&sheet));
+            assert_eq!(best_choice(&sheet), searched);
+            some_inside += u32::from((2..u32::from(n) - 1).contains(&count));
+        }
+    }
+    // Most of the sheets leave the search something to do.
+    assert!(some_inside > 600, "{some_inside}");
+}
+
 #[test]
 fn large_sheets_have_valid_best_choices_that_no_neighbour_beats() {
     let mut random = Random::new(5);
