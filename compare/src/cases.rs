@@ -1,6 +1,7 @@
 //! Document 01's worked examples that aren't marked (P): the tie, the desk on P1, and the sheet of
 //! each plausible error. All that is expected is written by hand from the document.
 
+use crate::conformance::answer_line;
 use crate::report::Report;
 use crate::side_by_side::{check, making, must, reading, same, Buffers, Compared, Desks};
 use reference::random::sheet_bytes;
@@ -128,33 +129,10 @@ impl Case {
         let mut desks = Desks::fresh();
         desks.load(report, &sheet, buffers)?;
         for &(list, wanted) in self.lists {
-            let line = line(desks.mark(report, list)?);
+            let line = answer_line(desks.mark(report, list)?);
             let message = format!("the library says {line}, the document {wanted}");
             must(line == wanted, &message)?;
         }
         Ok(())
-    }
-}
-
-/// An answer as a line.
-fn line(answer: Result<plates::Marked, u8>) -> String {
-    let plates::Marked { number, verdict } = match answer {
-        Ok(marked) => marked,
-        Err(number) => return format!("refused {number}"),
-    };
-    match verdict {
-        plates::Verdict::Valid { count, shortfall } => {
-            format!("{number} valid {count} {shortfall}")
-        }
-        plates::Verdict::Clash {
-            first,
-            second,
-            kind: plates::ClashKind::Labels,
-        } => format!("{number} clash {first} {second} labels"),
-        plates::Verdict::Clash {
-            first,
-            second,
-            kind: plates::ClashKind::Leader,
-        } => format!("{number} clash {first} {second} leader"),
     }
 }

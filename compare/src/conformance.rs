@@ -53,10 +53,7 @@ fn line(desk: &mut Desk, kind: u8, part: &[u8]) -> String {
             (0, Some((points, best))) => format!("loaded {points} {best}"),
             (number, _) => format!("refused {number}"),
         },
-        _ => match desk.mark(part) {
-            Ok(marked) => mark_line(marked),
-            Err(number) => format!("refused {number}"),
-        },
+        _ => answer_line(desk.mark(part)),
     }
 }
 
@@ -83,7 +80,12 @@ fn plate_line(bytes: &[u8]) -> String {
     format!("plate accepted{inside}")
 }
 
-fn mark_line(Marked { number, verdict }: Marked) -> String {
+/// The line of a mark's answer.
+pub fn answer_line(answer: Result<Marked, u8>) -> String {
+    let Marked { number, verdict } = match answer {
+        Ok(marked) => marked,
+        Err(number) => return format!("refused {number}"),
+    };
     match verdict {
         Verdict::Valid { count, shortfall } => format!("{number} valid {count} {shortfall}"),
         Verdict::Clash {
@@ -145,7 +147,7 @@ pub fn input(seed: u64) -> Result<Vec<u8>, String> {
             input.item(MARK, list);
         }
     }
-    let mut made_up = aimed(&mut random, &mut input);
+    let mut made_up = aimed(&mut random, &mut input)?;
     while made_up < MADE_UP {
         any_item(&mut random, &mut input);
         made_up += 1;
@@ -157,7 +159,7 @@ pub fn input(seed: u64) -> Result<Vec<u8>, String> {
 }
 
 /// For each number an item that gives it. Gives how many items that was.
-fn aimed(random: &mut Random, input: &mut Input) -> usize {
+fn aimed(random: &mut Random, input: &mut Input) -> Result<usize, String> {
     let mut items = 0;
     for number in 11..=20 {
         let part = until(random, |random| {
@@ -183,10 +185,8 @@ fn aimed(random: &mut Random, input: &mut Input) -> usize {
         input.item(PLATE, &part);
         items += 1;
     }
+    let sheet = input.loaded.clone().ok_or("no sheet is loaded")?;
     for number in 31..=33 {
-        let Some(sheet) = input.loaded.clone() else {
-            continue;
-        };
         let part = until(random, |random| {
             let mut list = any_list(random, Some(&sheet));
             aim_at_list(random, &mut list, sheet.points().len() as u8, number);
@@ -197,7 +197,7 @@ fn aimed(random: &mut Random, input: &mut Input) -> usize {
         input.item(MARK, &part);
         items += 1;
     }
-    items
+    Ok(items)
 }
 
 /// Tries until a part is found that isn't too long.

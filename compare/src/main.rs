@@ -2,10 +2,13 @@
 //! aren't marked (P), and thousands of made-up cases. It ends at the first difference, with the
 //! bytes in hand, the seed, and exit status 1.
 
+#![deny(unsafe_code)]
+
 mod cases;
 mod conformance;
 mod damage;
 mod lent;
+mod library;
 mod parts;
 mod report;
 mod sheets;

@@ -2,8 +2,9 @@
 //! an `Err` with what differs.
 
 use crate::lent::Lent;
+use crate::library;
 use crate::report::{Call, Report, OTHER_CHOICE};
-use reference::{Choice, Sheet};
+use reference::{Choice, ClashKind, Marked, Sheet, Verdict};
 
 pub type Compared = Result<(), String>;
 
@@ -59,7 +60,7 @@ fn number_of<T>(answer: &Result<T, u8>) -> u8 {
 pub fn check(report: &mut Report, bytes: &[u8]) -> Compared {
     report.hold("sheet to check", bytes);
     let lent = Lent::copy_of(bytes, bytes.len() % 3);
-    let number = number_of(&plates::check_sheet(lent.part()));
+    let number = number_of(&library::check_sheet(lent.part()));
     same("check", number, reference::check_sheet(bytes))?;
     must(lent.untouched(), "the check wrote to its sheet")?;
     report.answered(Call::Check, number);
@@ -76,7 +77,7 @@ pub fn making(
     let lent = Lent::copy_of(bytes, buffers.offset);
     let mut output = Lent::output(buffers.output, buffers.offset);
     let mut workspace = Lent::workspace(buffers.workspace, buffers.offset);
-    let answer = plates::make(lent.part(), output.lend(), workspace.lend());
+    let answer = library::make(lent.part(), output.lend(), workspace.lend());
     let number = number_of(&answer);
     let wanted = reference::making_no(bytes, buffers.output, buffers.workspace);
     same(&format!("making with {buffers:?}"), number, wanted)?;
@@ -134,7 +135,7 @@ pub fn reading(report: &mut Report, plate: &[u8]) -> Result<u8, String> {
     report.hold("plate to read", plate);
     let lent = Lent::copy_of(plate, plate.len() % 3);
     let part = lent.part();
-    let proved = plates::read_plate(part);
+    let proved = library::read_plate(part);
     let reference = reference::read_plate(part);
     let number = number_of(&proved);
     same("reading", number, reference.number)?;
@@ -151,14 +152,14 @@ pub fn reading(report: &mut Report, plate: &[u8]) -> Result<u8, String> {
 
 /// A desk of the library and one of the reference, which get the same calls.
 pub struct Desks {
-    proved: plates::Desk,
+    proved: library::Desk,
     reference: reference::Desk,
 }
 
 impl Desks {
     pub fn fresh() -> Desks {
         Desks {
-            proved: plates::Desk::new(),
+            proved: library::Desk::fresh(),
             reference: reference::Desk::fresh(),
         }
     }
@@ -172,16 +173,16 @@ impl Desks {
         let lent = Lent::copy_of(bytes, buffers.offset);
         let mut workspace = Lent::workspace(buffers.workspace, buffers.offset);
         let was_loaded = self.reference.loaded().is_some();
-        let before = self.proved.clone();
-        let (desk, answer) = before.clone().load(lent.part(), workspace.lend());
+        let (desk, answer) = self.proved.copy().load(lent.part(), workspace.lend());
         let number = number_of(&answer);
         let wanted = self.reference.load(bytes, buffers.workspace);
         same(&format!("load with {buffers:?}"), number, wanted)?;
         must(lent.untouched(), "the load wrote to its sheet")?;
         report.answered(Call::Load, number);
+        let unchanged = desk == self.proved;
         self.proved = desk;
         if number != 0 {
-            must(self.proved == before, "a refused load changed the desk")?;
+            must(unchanged, "a refused load changed the desk")?;
             let untouched = workspace.untouched();
             return must(untouched, "a refused load wrote to the workspace");
         }
@@ -198,75 +199,40 @@ impl Desks {
     /// The best count and the last number, as copies of the desks show them: the empty list is
     /// valid, its number is the next one and its shortfall the best count.
     fn shows_best(&self) -> Compared {
-        let (_, proved) = self.proved.clone().mark(&[0]);
+        let (_, proved) = self.proved.copy().mark(&[0]);
         let reference = self.reference.clone().mark(&[0]);
-        same(
-            "the empty list after a load",
-            proved,
-            reference.map(as_proved),
-        )
+        same("the empty list after a load", proved, reference)
     }
 
     /// A mark; gives the answer of both.
-    pub fn mark(
-        &mut self,
-        report: &mut Report,
-        list: &[u8],
-    ) -> Result<Result<plates::Marked, u8>, String> {
+    pub fn mark(&mut self, report: &mut Report, list: &[u8]) -> Result<Result<Marked, u8>, String> {
         report.hold("mark", list);
         let lent = Lent::copy_of(list, list.len() % 3);
-        let before = self.proved.clone();
-        let (desk, answer) = before.clone().mark(lent.part());
-        let wanted = self.reference.mark(list).map(as_proved);
-        same("mark", answer, wanted)?;
+        let (desk, answer) = self.proved.copy().mark(lent.part());
+        same("mark", answer, self.reference.mark(list))?;
         must(lent.untouched(), "the mark wrote to its list")?;
         report.answered(Call::Mark, number_of(&answer));
+        let unchanged = desk == self.proved;
         self.proved = desk;
-        match answer {
-            Err(_) => must(self.proved == before, "a refused mark changed the desk")?,
-            Ok(marked) => report.saw(feature(marked.verdict)),
-        }
+        let Ok(marked) = answer else {
+            must(unchanged, "a refused mark changed the desk")?;
+            return Ok(answer);
+        };
+        report.saw(feature(marked.verdict));
         Ok(answer)
     }
 }
 
-/// The reference's answer in the wrapper's types.
-fn as_proved(marked: reference::Marked) -> plates::Marked {
-    // Counts and positions are at most 32.
-    let verdict = match marked.verdict {
-        reference::Verdict::Valid { count, shortfall } => plates::Verdict::Valid {
-            count: count as u8,
-            shortfall: shortfall as u8,
-        },
-        reference::Verdict::Clash {
-            first,
-            second,
-            kind,
-        } => plates::Verdict::Clash {
-            first: first as u8,
-            second: second as u8,
-            kind: match kind {
-                reference::ClashKind::Labels => plates::ClashKind::Labels,
-                reference::ClashKind::Leader => plates::ClashKind::Leader,
-            },
-        },
-    };
-    plates::Marked {
-        number: marked.number,
-        verdict,
-    }
-}
-
-fn feature(verdict: plates::Verdict) -> &'static str {
+fn feature(verdict: Verdict) -> &'static str {
     match verdict {
-        plates::Verdict::Valid { shortfall: 0, .. } => "lists valid, shortfall 0",
-        plates::Verdict::Valid { .. } => "lists valid, shortfall above 0",
-        plates::Verdict::Clash {
-            kind: plates::ClashKind::Labels,
+        Verdict::Valid { shortfall: 0, .. } => "lists valid, shortfall 0",
+        Verdict::Valid { .. } => "lists valid, shortfall above 0",
+        Verdict::Clash {
+            kind: ClashKind::Labels,
             ..
         } => "lists with a clash of labels",
-        plates::Verdict::Clash {
-            kind: plates::ClashKind::Leader,
+        Verdict::Clash {
+            kind: ClashKind::Leader,
             ..
         } => "lists with a clash with a leader",
     }

@@ -1,0 +1,74 @@
+//! The proved library. This is the only file that uses the Rust wrapper: an answer goes on in the
+//! reference's types, a refusal as its number.
+
+use reference::{ClashKind, Marked, Verdict};
+
+/// The check of a sheet.
+pub fn check_sheet(sheet: &[u8]) -> Result<(), u8> {
+    plates::check_sheet(sheet).map_err(number)
+}
+
+/// A making; gives the written length.
+pub fn make(sheet: &[u8], output: &mut [u8], workspace: &mut [u16]) -> Result<usize, u8> {
+    plates::make(sheet, output, workspace).map_err(number)
+}
+
+/// The reading of a plate; gives the inside list.
+pub fn read_plate(plate: &[u8]) -> Result<&[u8], u8> {
+    plates::read_plate(plate).map_err(number)
+}
+
+/// A desk.
+#[derive(Debug, PartialEq, Eq)]
+pub struct Desk(plates::Desk);
+
+impl Desk {
+    pub fn fresh() -> Desk {
+        Desk(plates::Desk::new())
+    }
+
+    /// Another desk with the same value.
+    pub fn copy(&self) -> Desk {
+        Desk(self.0.clone())
+    }
+
+    pub fn load(self, sheet: &[u8], workspace: &mut [u16]) -> (Desk, Result<(), u8>) {
+        let (desk, answer) = self.0.load(sheet, workspace);
+        (Desk(desk), answer.map_err(number))
+    }
+
+    pub fn mark(self, list: &[u8]) -> (Desk, Result<Marked, u8>) {
+        let (desk, answer) = self.0.mark(list);
+        (Desk(desk), answer.map(marked).map_err(number))
+    }
+}
+
+/// The number of a refusal.
+fn number(refusal: u8) -> u8 {
+    refusal
+}
+
+fn marked(marked: plates::Marked) -> Marked {
+    let verdict = match marked.verdict {
+        plates::Verdict::Valid { count, shortfall } => Verdict::Valid {
+            count: count.into(),
+            shortfall: shortfall.into(),
+        },
+        plates::Verdict::Clash {
+            first,
+            second,
+            kind,
+        } => Verdict::Clash {
+            first: first.into(),
+            second: second.into(),
+            kind: match kind {
+                plates::ClashKind::Labels => ClashKind::Labels,
+                plates::ClashKind::Leader => ClashKind::Leader,
+            },
+        },
+    };
+    Marked {
+        number: marked.number,
+        verdict,
+    }
+}
