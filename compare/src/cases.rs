@@ -2,6 +2,7 @@
 //! each plausible error. All that is expected is written by hand from the document.
 
 use crate::conformance::answer_line;
+use crate::lent::Content;
 use crate::report::Report;
 use crate::side_by_side::{check, making, must, reading, same, Buffers, Compared, Desks};
 use reference::random::sheet_bytes;
@@ -117,7 +118,7 @@ impl Case {
     /// Runs the case; the library, the reference and the document must agree.
     pub fn run(&self, report: &mut Report) -> Compared {
         let sheet = self.sheet();
-        let buffers = Buffers::just_enough(self.points.len());
+        let buffers = Buffers::just_enough(self.points.len(), Content::Greatest);
         check(report, &sheet)?;
         let plate = making(report, &sheet, buffers)?.ok_or("refused")?;
         let count = usize::from(plate[sheet.len()]);

@@ -1,6 +1,8 @@
-//! The parts of the comparison. Each case is made up from its own seed alone.
+//! The parts of the comparison. A case is a sheet, a plate, or a script of a desk's calls, and is
+//! made up from its own seed alone.
 
 use crate::damage::{aim_at_sheet, damage_list, damage_plate, damage_sheet, once_in};
+use crate::lent::Content;
 use crate::report::Report;
 use crate::sheets::{crowded_sheet, sheet, sheet_of, small_sheet};
 use crate::side_by_side::{check, making, reading, same, Buffers, Compared, Desks};
@@ -53,19 +55,19 @@ fn sheets(random: &mut Random, report: &mut Report) -> Compared {
         0 => crowded_sheet(random),
         _ => sheet(random),
     };
-    note_features(report, &bytes);
+    let sheet = made_up_sheet(&bytes);
+    note_features(report, &sheet);
     check(report, &bytes)?;
     let buffers = any_buffers(random, &bytes);
-    let Some(plate) = making(report, &bytes, buffers)? else {
-        return Ok(());
-    };
-    if buffers.output > 12 + 8 * usize::from(bytes[9]) && buffers.workspace > WORKSPACE_NUMBERS {
-        report.saw("makings with longer buffers");
+    if let Some(plate) = making(report, &bytes, buffers)? {
+        let enough = Buffers::just_enough(sheet.points().len(), buffers.content);
+        if buffers.output > enough.output && buffers.workspace > enough.workspace {
+            report.feature("makings with longer buffers");
+        }
+        let number = reading(report, &plate)?;
+        same("the reading of a made plate, and yes", number, 0)?;
     }
-    let number = reading(report, &plate)?;
-    same("the reading of a made plate, and yes", number, 0)?;
     // The reference's best plate, and nothing inside.
-    let sheet = Sheet::read(&bytes).map_err(|number| format!("no sheet: {number}"))?;
     for choice in [best_choice(&sheet), Choice(0)] {
         let number = reading(report, &reference::plate_bytes(&sheet, choice))?;
         same("the reading of a plate, and yes", number, 0)?;
@@ -73,34 +75,38 @@ fn sheets(random: &mut Random, report: &mut Report) -> Compared {
     Ok(())
 }
 
-fn note_features(report: &mut Report, bytes: &[u8]) {
-    let Ok(sheet) = Sheet::read(bytes) else {
-        return;
-    };
+/// The sheet of bytes that were made up to be one.
+fn made_up_sheet(bytes: &[u8]) -> Sheet {
+    Sheet::read(bytes).expect("a made-up sheet keeps the rules")
+}
+
+fn note_features(report: &mut Report, sheet: &Sheet) {
     let mut columns: Vec<u16> = sheet.points().iter().map(|point| point.column).collect();
     columns.sort_unstable();
     if columns.windows(2).any(|pair| pair[0] == pair[1]) {
-        report.saw("sheets with equal columns");
+        report.feature("sheets with equal columns");
     }
     match sheet.label_width() {
-        1 => report.saw("sheets with label width 1"),
-        256 => report.saw("sheets with label width 256"),
+        1 => report.feature("sheets with label width 1"),
+        256 => report.feature("sheets with label width 256"),
         _ => {}
     }
     match sheet.label_height() {
-        1 => report.saw("sheets with label height 1"),
-        256 => report.saw("sheets with label height 256"),
+        1 => report.feature("sheets with label height 1"),
+        256 => report.feature("sheets with label height 256"),
         _ => {}
     }
-    if bytes[1..3] == [0, 16] || bytes[3..5] == [0, 16] {
-        report.saw("sheets with a map side of 4096");
+    // 4,096 with the low byte first.
+    if sheet.bytes()[1..3] == [0, 16] || sheet.bytes()[3..5] == [0, 16] {
+        report.feature("sheets with a map side of 4096");
     }
 }
 
-/// Buffers for a sheet: mostly enough, just so or longer; at times too short.
+/// Buffers for a sheet: mostly enough, just so or longer; at times too short. Bytes without a
+/// point count get what no points ask for.
 fn any_buffers(random: &mut Random, sheet: &[u8]) -> Buffers {
     let n = sheet.get(9).copied().unwrap_or(0);
-    let enough = Buffers::just_enough(n.into());
+    let enough = Buffers::just_enough(n.into(), Content::any(random));
     let output = match random.below(16) {
         0 => enough.output - 1,
         1 => usize::from(random.below(enough.output as u16)),
@@ -119,6 +125,7 @@ fn any_buffers(random: &mut Random, sheet: &[u8]) -> Buffers {
         output,
         workspace,
         offset: random.below(9).into(),
+        ..enough
     }
 }
 
@@ -146,11 +153,8 @@ fn damaged_sheets(random: &mut Random, report: &mut Report) -> Compared {
 
 /// A plate in which all but the choice is right.
 pub fn any_plate(random: &mut Random) -> Vec<u8> {
-    let bytes = sheet(random);
-    match Sheet::read(&bytes) {
-        Ok(sheet) => reference::plate_bytes(&sheet, any_choice(random, &sheet)),
-        Err(_) => bytes,
-    }
+    let sheet = made_up_sheet(&sheet(random));
+    reference::plate_bytes(&sheet, any_choice(random, &sheet))
 }
 
 /// Any choice: best, nearly best, nothing, everything, crowded or thin.
@@ -175,12 +179,13 @@ fn any_choice(random: &mut Random, sheet: &Sheet) -> Choice {
 /// Plates of any choice: accepted or 44.
 fn plates(random: &mut Random, report: &mut Report) -> Compared {
     let plate = any_plate(random);
-    let number = reading(report, &plate)?;
-    if let (0, Ok(sheet)) = (number, Sheet::read_start(&plate)) {
-        let inside = usize::from(plate[sheet.bytes().len()]);
-        if inside < reference::best_count(&sheet) {
-            report.saw("accepted plates that are not best");
-        }
+    if reading(report, &plate)? != 0 {
+        return Ok(());
+    }
+    let sheet = Sheet::read_start(&plate).map_err(|number| format!("no sheet: {number}"))?;
+    let inside = usize::from(plate[sheet.bytes().len()]);
+    if inside < reference::best_count(&sheet) {
+        report.feature("accepted plates that are not best");
     }
     Ok(())
 }
@@ -191,7 +196,7 @@ fn damaged_plates(random: &mut Random, report: &mut Report) -> Compared {
         // Aimed, so that each of a sheet's numbers comes up often enough.
         let number = random.between(11, 20) as u8;
         aim_at_sheet(random, &mut plate, number);
-        report.saw("damaged sheets in plates");
+        report.feature("damaged sheets in plates");
     } else {
         damage_plate(random, &mut plate);
     }
@@ -275,10 +280,12 @@ fn desk_to_52(random: &mut Random, report: &mut Report) -> Compared {
         if once_in(random, 3) {
             damage_sheet(random, &mut bytes);
         }
-        script.load(report, &bytes, Buffers::just_enough(0))?;
+        let buffers = Buffers::just_enough(0, Content::any(random));
+        script.load(report, &bytes, buffers)?;
     }
     // No number is left, but loads go on.
     let bytes = small_sheet(random);
-    script.load(report, &bytes, Buffers::just_enough(0))?;
+    let buffers = Buffers::just_enough(0, Content::any(random));
+    script.load(report, &bytes, buffers)?;
     script.mark(random, report)
 }

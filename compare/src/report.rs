@@ -1,7 +1,9 @@
-//! What was compared: how often each call was made and each number seen, and the bytes of the case
-//! in hand for the message of a failure.
+//! What was compared: how often each thing was seen, what must be seen and how often, and the bytes
+//! of the case in hand for the message of a failure.
 
+use crate::lent::{CONTENTS, LENGTHS};
 use std::collections::{BTreeMap, VecDeque};
+use std::fmt::{self, Display, Formatter};
 
 /// The calls that are compared.
 #[derive(Clone, Copy, Debug, PartialEq, Eq, PartialOrd, Ord)]
@@ -15,7 +17,35 @@ pub enum Call {
 
 const CALLS: [Call; 5] = [Call::Check, Call::Make, Call::Read, Call::Load, Call::Mark];
 
-/// The numbers that each call must have given, 0 for yes to all questions.
+/// The calls that are lent a workspace.
+const WITH_WORKSPACE: [Call; 2] = [Call::Make, Call::Load];
+
+/// Something that was seen.
+#[derive(Clone, Copy, Debug, PartialEq, Eq, PartialOrd, Ord)]
+pub enum Seen {
+    /// A call was answered with a number, 0 for yes to all questions.
+    Answer(Call, u8),
+    /// A call was accepted, on a sheet of so many points.
+    Points(Call, usize),
+    /// A call, accepted or not, was lent a workspace of this content or length.
+    Workspace(Call, bool, &'static str),
+    /// A case had this feature.
+    Feature(&'static str),
+}
+
+impl Display for Seen {
+    fn fmt(&self, f: &mut Formatter) -> fmt::Result {
+        match self {
+            Seen::Answer(call, number) => write!(f, "{call:?} answered with {number}"),
+            Seen::Points(call, n) => write!(f, "{call:?} accepted, {n} points"),
+            Seen::Workspace(call, true, kind) => write!(f, "{call:?} accepted, workspace {kind}"),
+            Seen::Workspace(call, false, kind) => write!(f, "{call:?} refused, workspace {kind}"),
+            Seen::Feature(feature) => write!(f, "{feature}"),
+        }
+    }
+}
+
+/// The numbers that each call can give, 0 for yes to all questions.
 fn numbers_of(call: Call) -> Vec<u8> {
     let sheet = 11..=20;
     let own: &[u8] = match call {
@@ -31,10 +61,19 @@ fn numbers_of(call: Call) -> Vec<u8> {
         .collect()
 }
 
-/// Other things that must have been seen.
-const FEATURES: [&str; 17] = [
+/// A workspace with a number too few, where that was the first no.
+pub const ONE_TOO_FEW: &str = "32,767, and refused with 22";
+
+/// How the reference found a best count.
+pub const TRIED: &str = "bests by every choice, up to 12 points";
+pub const SEARCHED: &str = "bests by the search, above 12 points";
+
+/// Features that must have been seen.
+const FEATURES: [&str; 19] = [
     "best plates with every point inside",
     "best plates with points outside",
+    TRIED,
+    SEARCHED,
     "sheets with equal columns",
     "sheets with label width 1",
     "sheets with label width 256",
@@ -55,15 +94,52 @@ const FEATURES: [&str; 17] = [
 /// What may be seen or not: where several best choices exist, the library is free to take any.
 pub const OTHER_CHOICE: &str = "best choices unlike the reference's";
 
+/// How often each answer of each call, each point count and each workspace must be seen. It is so
+/// far below what is to be expected that no seed misses it by chance.
+const OFTEN: u64 = 50;
+
+/// All that must be seen with a seed, and how often.
+fn required() -> Vec<(Seen, u64)> {
+    let mut required = Vec::new();
+    for call in CALLS {
+        let answers = numbers_of(call).into_iter();
+        required.extend(answers.map(|number| (Seen::Answer(call, number), OFTEN)));
+        required.extend((0..=32).map(|n| (Seen::Points(call, n), OFTEN)));
+    }
+    for (call, accepted, kind) in workspaces() {
+        required.push((Seen::Workspace(call, accepted, kind), OFTEN));
+    }
+    required.extend(FEATURES.map(|feature| (Seen::Feature(feature), 1)));
+    required
+}
+
+/// The workspaces that must have been lent: too short ones to refused calls, all others to
+/// accepted and to refused ones.
+fn workspaces() -> Vec<(Call, bool, &'static str)> {
+    let mut workspaces = Vec::new();
+    for call in WITH_WORKSPACE {
+        for kind in workspace_kinds() {
+            workspaces.push((call, false, kind));
+            if ![LENGTHS[0], LENGTHS[1], ONE_TOO_FEW].contains(&kind) {
+                workspaces.push((call, true, kind));
+            }
+        }
+    }
+    workspaces
+}
+
+/// The contents and the lengths of workspaces.
+fn workspace_kinds() -> impl Iterator<Item = &'static str> {
+    let kinds = CONTENTS.into_iter().chain(LENGTHS);
+    kinds.chain([ONE_TOO_FEW])
+}
+
 /// So many calls of a case are kept for the message of a failure.
 const KEPT: usize = 500;
 
 #[derive(Default)]
 pub struct Report {
-    numbers: BTreeMap<(Call, u8), u64>,
-    features: BTreeMap<&'static str, u64>,
-    /// By point count: how many plates were made.
-    points: BTreeMap<usize, u64>,
+    counts: BTreeMap<Seen, u64>,
     held: VecDeque<(&'static str, Vec<u8>)>,
 }
 
@@ -89,84 +165,109 @@ impl Report {
             .collect()
     }
 
+    /// This was seen.
+    pub fn saw(&mut self, seen: Seen) {
+        *self.counts.entry(seen).or_default() += 1;
+    }
+
+    /// A case had one of the features.
+    pub fn feature(&mut self, feature: &'static str) {
+        self.saw(Seen::Feature(feature));
+    }
+
     /// A call was answered with this number by both.
     pub fn answered(&mut self, call: Call, number: u8) {
-        *self.numbers.entry((call, number)).or_default() += 1;
+        self.saw(Seen::Answer(call, number));
     }
 
-    /// One of the features was seen.
-    pub fn saw(&mut self, feature: &'static str) {
-        *self.features.entry(feature).or_default() += 1;
+    /// A call on a sheet of n points was accepted by both.
+    pub fn accepted(&mut self, call: Call, n: usize) {
+        self.saw(Seen::Points(call, n));
     }
 
-    /// A plate was made of a sheet with n points.
-    pub fn made(&mut self, n: usize) {
-        *self.points.entry(n).or_default() += 1;
+    fn count(&self, seen: Seen) -> u64 {
+        self.counts.get(&seen).copied().unwrap_or(0)
     }
 
-    fn count(&self, call: Call, number: u8) -> u64 {
-        self.numbers.get(&(call, number)).copied().unwrap_or(0)
+    /// What had to be seen, and wasn't or too seldom.
+    pub fn missing(&self) -> Vec<String> {
+        required()
+            .into_iter()
+            .map(|(seen, least)| (seen, least, self.count(seen)))
+            .filter(|(_, least, count)| count < least)
+            .map(|(seen, least, count)| format!("{seen}: {count} times, not {least} or more"))
+            .collect()
     }
 
     /// The tables.
     pub fn tables(&self) -> String {
-        let mut text = format!("{:<8}", "number");
-        for call in CALLS {
-            text.push_str(&format!("{:>9}", format!("{call:?}")));
-        }
-        text.push('\n');
+        let features = FEATURES.into_iter().chain([OTHER_CHOICE]);
+        [
+            self.answers(),
+            self.points(),
+            self.workspaces(),
+            features
+                .map(|feature| (feature, self.count(Seen::Feature(feature))))
+                .map(|(feature, count)| format!("{feature:<40}{count:>9}\n"))
+                .collect(),
+        ]
+        .join("\n")
+    }
+
+    /// A row for each number, a column for each call.
+    fn answers(&self) -> String {
+        let mut text = row("number", CALLS.map(|call| format!("{call:?}")));
         for number in 0..=u8::MAX {
-            if CALLS.iter().all(|&call| self.count(call, number) == 0) {
-                continue;
-            }
+            let counts = CALLS.map(|call| self.count(Seen::Answer(call, number)));
             let name = match number {
                 0 => "yes".to_string(),
                 _ => number.to_string(),
             };
-            text.push_str(&format!("{name:<8}"));
-            for call in CALLS {
-                text.push_str(&match self.count(call, number) {
-                    0 => format!("{:>9}", ""),
-                    count => format!("{count:>9}"),
-                });
+            if counts != [0; 5] {
+                text.push_str(&row(&name, counts.map(unless_0)));
             }
-            text.push('\n');
         }
-        text.push('\n');
-        for feature in FEATURES.into_iter().chain([OTHER_CHOICE]) {
-            let count = self.features.get(feature).copied().unwrap_or(0);
-            text.push_str(&format!("{feature:<36}{count:>9}\n"));
-        }
-        let (least, most) = (self.points.values().min(), self.points.values().max());
-        text.push_str(&format!(
-            "plates made for each n from 0 to 32: {} to {}\n",
-            least.unwrap_or(&0),
-            most.unwrap_or(&0)
-        ));
         text
     }
 
-    /// What had to be seen and never was.
-    pub fn missing(&self) -> Vec<String> {
-        let mut missing = Vec::new();
-        for call in CALLS {
-            for number in numbers_of(call) {
-                if self.count(call, number) == 0 {
-                    missing.push(format!("{call:?} never answered {number}"));
-                }
-            }
+    /// How often each call was accepted on a sheet of n points, for the n with the fewest and
+    /// for the n with the most.
+    fn points(&self) -> String {
+        let counts = |call| (0..=32).map(move |n| self.count(Seen::Points(call, n)));
+        let least = CALLS.map(|call| unless_0(counts(call).min().unwrap_or(0)));
+        let most = CALLS.map(|call| unless_0(counts(call).max().unwrap_or(0)));
+        row("yes for each n from 0 to 32, at least", least) + &row("at most", most)
+    }
+
+    /// A row for each content and length of workspaces.
+    fn workspaces(&self) -> String {
+        let columns = ["made", "refused", "loaded", "refused"].map(String::from);
+        let mut text = row("workspace", columns);
+        for kind in workspace_kinds() {
+            let count = |call, accepted| self.count(Seen::Workspace(call, accepted, kind));
+            let counts = [
+                count(Call::Make, true),
+                count(Call::Make, false),
+                count(Call::Load, true),
+                count(Call::Load, false),
+            ];
+            text.push_str(&row(kind, counts.map(unless_0)));
         }
-        for feature in FEATURES {
-            if !self.features.contains_key(feature) {
-                missing.push(format!("never seen: {feature}"));
-            }
-        }
-        for n in 0..=32 {
-            if !self.points.contains_key(&n) {
-                missing.push(format!("no plate was made of {n} points"));
-            }
-        }
-        missing
+        text
+    }
+}
+
+/// A line of a table.
+fn row<const N: usize>(name: &str, cells: [String; N]) -> String {
+    let cells: String = cells.iter().map(|cell| format!("{cell:>9}")).collect();
+    format!("{name:<40}{cells}\n")
+}
+
+/// A count; nothing for 0.
+fn unless_0(count: u64) -> String {
+    match count {
+        0 => String::new(),
+        _ => count.to_string(),
     }
 }
 

@@ -1,10 +1,11 @@
 //! One call of the proved library and of the reference, and what must be the same. A difference is
 //! an `Err` with what differs.
 
-use crate::lent::Lent;
+use crate::lent::{length_name, Content, Lent};
 use crate::library;
-use crate::report::{Call, Report, OTHER_CHOICE};
-use reference::{Choice, ClashKind, Marked, Sheet, Verdict};
+use crate::report::{Call, Report, Seen, ONE_TOO_FEW, OTHER_CHOICE, SEARCHED, TRIED};
+use reference::search::TRY_ALL_POINTS;
+use reference::{Choice, ClashKind, Marked, Sheet, Verdict, WORKSPACE_NUMBERS};
 
 pub type Compared = Result<(), String>;
 
@@ -15,18 +16,25 @@ pub struct Buffers {
     pub output: usize,
     /// The workspace's length.
     pub workspace: usize,
+    /// What the workspace holds.
+    pub content: Content,
     /// By how much the lent parts are shifted in memory.
     pub offset: usize,
 }
 
 impl Buffers {
     /// Just what a making of n points asks for.
-    pub fn just_enough(n: usize) -> Buffers {
+    pub fn just_enough(n: usize, content: Content) -> Buffers {
         Buffers {
             output: 12 + 8 * n,
-            workspace: reference::WORKSPACE_NUMBERS,
+            workspace: WORKSPACE_NUMBERS,
+            content,
             offset: 0,
         }
+    }
+
+    fn lent_workspace(&self) -> Lent<u16> {
+        Lent::workspace(self.workspace, self.offset, self.content)
     }
 }
 
@@ -56,6 +64,12 @@ fn number_of<T>(answer: &Result<T, u8>) -> u8 {
     }
 }
 
+/// The sheet of bytes that were accepted.
+fn accepted_sheet(bytes: &[u8]) -> Result<Sheet, String> {
+    Sheet::read(bytes)
+        .map_err(|number| format!("the reference refuses an accepted sheet: {number}"))
+}
+
 /// The check of a sheet.
 pub fn check(report: &mut Report, bytes: &[u8]) -> Compared {
     report.hold("sheet to check", bytes);
@@ -64,6 +78,32 @@ pub fn check(report: &mut Report, bytes: &[u8]) -> Compared {
     same("check", number, reference::check_sheet(bytes))?;
     must(lent.untouched(), "the check wrote to its sheet")?;
     report.answered(Call::Check, number);
+    if number == 0 {
+        report.accepted(Call::Check, accepted_sheet(bytes)?.points().len());
+    }
+    Ok(())
+}
+
+/// The workspace after a call that was answered with this number: zero throughout if the call was
+/// accepted, and as it was if not.
+fn workspace_after(
+    report: &mut Report,
+    call: Call,
+    number: u8,
+    buffers: Buffers,
+    workspace: &Lent<u16>,
+) -> Compared {
+    let (kept, message) = match number {
+        0 => (workspace.zeroed(), "the workspace is not just zero"),
+        _ => (workspace.untouched(), "a refusal wrote to the workspace"),
+    };
+    must(kept, &format!("{call:?} with {buffers:?}: {message}"))?;
+    for kind in [buffers.content.name(), length_name(buffers.workspace)] {
+        report.saw(Seen::Workspace(call, number == 0, kind));
+    }
+    if number == 22 && buffers.workspace == WORKSPACE_NUMBERS - 1 {
+        report.saw(Seen::Workspace(call, false, ONE_TOO_FEW));
+    }
     Ok(())
 }
 
@@ -76,22 +116,20 @@ pub fn making(
     report.hold("sheet to make", bytes);
     let lent = Lent::copy_of(bytes, buffers.offset);
     let mut output = Lent::output(buffers.output, buffers.offset);
-    let mut workspace = Lent::workspace(buffers.workspace, buffers.offset);
+    let mut workspace = buffers.lent_workspace();
     let answer = library::make(lent.part(), output.lend(), workspace.lend());
     let number = number_of(&answer);
     let wanted = reference::making_no(bytes, buffers.output, buffers.workspace);
     same(&format!("making with {buffers:?}"), number, wanted)?;
     must(lent.untouched(), "the making wrote to its sheet")?;
     report.answered(Call::Make, number);
+    workspace_after(report, Call::Make, number, buffers, &workspace)?;
     let Ok(written) = answer else {
         must(output.untouched(), "a refused making wrote to the output")?;
-        let untouched = workspace.untouched();
-        must(untouched, "a refused making wrote to the workspace")?;
         return Ok(None);
     };
     let untouched = output.untouched_after(written);
     must(untouched, "bytes beside the plate were touched")?;
-    must(workspace.zeroed(), "the workspace is not just zero")?;
     let plate = output.part()[..written].to_vec();
     report.hold("plate made", &plate);
     made_plate(report, bytes, &plate)?;
@@ -100,7 +138,7 @@ pub fn making(
 
 /// The plate is the one of a valid choice, and the choice has the best count.
 fn made_plate(report: &mut Report, bytes: &[u8], plate: &[u8]) -> Compared {
-    let sheet = Sheet::read(bytes).map_err(|number| format!("no sheet: {number}"))?;
+    let sheet = accepted_sheet(bytes)?;
     let n = sheet.points().len();
     let choice = choice_of_plate(plate).ok_or("the plate has no inside list")?;
     let wanted = reference::plate_bytes(&sheet, choice);
@@ -112,15 +150,24 @@ fn made_plate(report: &mut Report, bytes: &[u8], plate: &[u8]) -> Compared {
     must(valid, "the reference's choice isn't valid")?;
     let (count, best_count) = (choice.0.count_ones(), best.0.count_ones());
     same("the inside count", count, best_count)?;
-    report.made(n);
-    report.saw(match usize::try_from(count) == Ok(n) {
+    report.accepted(Call::Make, n);
+    report.feature(way_to_best(n));
+    report.feature(match usize::try_from(count) == Ok(n) {
         true => "best plates with every point inside",
         false => "best plates with points outside",
     });
     if choice != best {
-        report.saw(OTHER_CHOICE);
+        report.feature(OTHER_CHOICE);
     }
     Ok(())
+}
+
+/// How the reference finds the best count of n points.
+fn way_to_best(n: usize) -> &'static str {
+    match n <= TRY_ALL_POINTS {
+        true => TRIED,
+        false => SEARCHED,
+    }
 }
 
 /// The choice that a plate's inside section names.
@@ -144,6 +191,7 @@ pub fn reading(report: &mut Report, plate: &[u8]) -> Result<u8, String> {
         let place = |inside: &[u8]| inside.as_ptr() as usize - part.as_ptr() as usize;
         let (own, wanted) = (place(inside), place(reference.inside));
         same("the inside list's place", own, wanted)?;
+        report.accepted(Call::Read, plate[9].into());
     }
     must(lent.untouched(), "the reading wrote to its plate")?;
     report.answered(Call::Read, number);
@@ -171,7 +219,7 @@ impl Desks {
     pub fn load(&mut self, report: &mut Report, bytes: &[u8], buffers: Buffers) -> Compared {
         report.hold("load", bytes);
         let lent = Lent::copy_of(bytes, buffers.offset);
-        let mut workspace = Lent::workspace(buffers.workspace, buffers.offset);
+        let mut workspace = buffers.lent_workspace();
         let was_loaded = self.reference.loaded().is_some();
         let (desk, answer) = self.proved.copy().load(lent.part(), workspace.lend());
         let number = number_of(&answer);
@@ -179,19 +227,20 @@ impl Desks {
         same(&format!("load with {buffers:?}"), number, wanted)?;
         must(lent.untouched(), "the load wrote to its sheet")?;
         report.answered(Call::Load, number);
+        workspace_after(report, Call::Load, number, buffers, &workspace)?;
         let unchanged = desk == self.proved;
         self.proved = desk;
         if number != 0 {
-            must(unchanged, "a refused load changed the desk")?;
-            let untouched = workspace.untouched();
-            return must(untouched, "a refused load wrote to the workspace");
+            return must(unchanged, "a refused load changed the desk");
         }
-        must(workspace.zeroed(), "the workspace is not just zero")?;
+        let n = accepted_sheet(bytes)?.points().len();
+        report.accepted(Call::Load, n);
+        report.feature(way_to_best(n));
         if was_loaded {
-            report.saw("loads onto a loaded desk");
+            report.feature("loads onto a loaded desk");
         }
         if self.last_number() == 9999 {
-            report.saw("loads after number 9999");
+            report.feature("loads after number 9999");
         }
         self.shows_best()
     }
@@ -218,7 +267,9 @@ impl Desks {
             must(unchanged, "a refused mark changed the desk")?;
             return Ok(answer);
         };
-        report.saw(feature(marked.verdict));
+        let (n, _) = self.reference.loaded().ok_or("marked without a sheet")?;
+        report.accepted(Call::Mark, n);
+        report.feature(feature(marked.verdict));
         Ok(answer)
     }
 }
