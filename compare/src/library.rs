@@ -18,6 +18,13 @@ pub fn read_plate(plate: &[u8]) -> Result<&[u8], u8> {
     plates::read_plate(plate).map_err(number)
 }
 
+/// The reading of a plate as the exported call answers it: the number, where the inside list
+/// starts and its count. The wrapper hands nothing of a refused plate on.
+pub fn exported_read(plate: &[u8]) -> (u32, u64, u64) {
+    let read = exported::read(plate);
+    (read.number, read.inside_start, read.inside_count)
+}
+
 /// A desk.
 #[derive(Debug, PartialEq, Eq)]
 pub struct Desk(plates::Desk);
@@ -70,5 +77,32 @@ fn marked(marked: plates::Marked) -> Marked {
     Marked {
         number: marked.number,
         verdict,
+    }
+}
+
+/// The exported call itself, as in bindings/c/plates.h.
+#[allow(unsafe_code)]
+mod exported {
+    use std::mem::offset_of;
+
+    #[repr(C)]
+    pub struct ReadResult {
+        pub number: u32,
+        pub inside_start: u64,
+        pub inside_count: u64,
+    }
+
+    const _: () = assert!(size_of::<ReadResult>() == 24);
+    const _: () = assert!(offset_of!(ReadResult, number) == 0);
+    const _: () = assert!(offset_of!(ReadResult, inside_start) == 8);
+    const _: () = assert!(offset_of!(ReadResult, inside_count) == 16);
+
+    extern "C" {
+        fn plate_read(plate: *const u8, plate_len: usize) -> ReadResult;
+    }
+
+    pub fn read(plate: &[u8]) -> ReadResult {
+        // The pointer and the length are those of one slice, and the call only reads there.
+        unsafe { plate_read(plate.as_ptr(), plate.len()) }
     }
 }

@@ -3,7 +3,7 @@
 
 use crate::lent::{length_name, Content, Lent};
 use crate::library;
-use crate::report::{Call, Report, Seen, ONE_TOO_FEW, OTHER_CHOICE, SEARCHED, TRIED};
+use crate::report::{Call, Report, Seen, EMPTY_START, ONE_TOO_FEW, OTHER_CHOICE, SEARCHED, TRIED};
 use reference::search::TRY_ALL_POINTS;
 use reference::{Choice, ClashKind, Marked, Sheet, Verdict, WORKSPACE_NUMBERS};
 
@@ -182,16 +182,27 @@ pub fn reading(report: &mut Report, plate: &[u8]) -> Result<u8, String> {
     report.hold("plate to read", plate);
     let lent = Lent::copy_of(plate, plate.len() % 3);
     let part = lent.part();
-    let proved = library::read_plate(part);
     let reference = reference::read_plate(part);
+    let place = |inside: &[u8]| inside.as_ptr() as usize - part.as_ptr() as usize;
+    let (start, count) = (place(reference.inside), reference.inside.len());
+    let wanted = (reference.number.into(), start as u64, count as u64);
+    let exported = library::exported_read(part);
+    same("the reading: number, start and count", exported, wanted)?;
+    let proved = library::read_plate(part);
     let number = number_of(&proved);
-    same("reading", number, reference.number)?;
-    if let Ok(inside) = proved {
-        same("the inside list", inside, reference.inside)?;
-        let place = |inside: &[u8]| inside.as_ptr() as usize - part.as_ptr() as usize;
-        let (own, wanted) = (place(inside), place(reference.inside));
-        same("the inside list's place", own, wanted)?;
-        report.accepted(Call::Read, plate[9].into());
+    same("the reading's number", number, reference.number)?;
+    match proved {
+        Ok(inside) => {
+            same("the inside list", inside, reference.inside)?;
+            same("the inside list's place", place(inside), start)?;
+            report.accepted(Call::Read, plate[9].into());
+        }
+        Err(_) => {
+            let (_, start, count) = exported;
+            let empty = (start, count) == (0, 0);
+            must(empty, "a refused plate doesn't hand back its empty start")?;
+            report.feature(EMPTY_START);
+        }
     }
     must(lent.untouched(), "the reading wrote to its plate")?;
     report.answered(Call::Read, number);
