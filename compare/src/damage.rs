@@ -200,6 +200,23 @@ pub fn aim_at_plate(random: &mut Random, plate: &mut Vec<u8>, number: u8) {
     }
 }
 
+/// Two sections with all their bytes whose counts add to n + 256: added as bytes they are n.
+pub fn wrap_counts(random: &mut Random, plate: &mut Vec<u8>) {
+    let n = u16::from(plate[9]);
+    let inside = random.between(n + 1, 255);
+    let outside = n + 256 - inside;
+    plate.truncate(10 + 6 * usize::from(n));
+    let way = random.below(3);
+    for (count, bytes) in [(inside, inside), (outside, 2 * outside)] {
+        plate.push(count as u8);
+        plate.extend((0..bytes).map(|i| match way {
+            0 => 0,
+            1 => i as u8,
+            _ => random.below(256) as u8,
+        }));
+    }
+}
+
 /// Counts that are wrong, bytes too few or too many, points missing or too many.
 fn damage_sections(random: &mut Random, plate: &mut Vec<u8>, sections: &Sections) {
     let Sections {

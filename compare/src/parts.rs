@@ -1,9 +1,9 @@
 //! The parts of the comparison. A case is a sheet, a plate, or a script of a desk's calls, and is
 //! made up from its own seed alone.
 
-use crate::damage::{aim_at_sheet, damage_list, damage_plate, damage_sheet, once_in};
+use crate::damage::{aim_at_sheet, damage_list, damage_plate, damage_sheet, once_in, wrap_counts};
 use crate::lent::Content;
-use crate::report::Report;
+use crate::report::{Report, WRAPPED};
 use crate::sheets::{crowded_sheet, sheet, sheet_of, small_sheet};
 use crate::side_by_side::{check, making, reading, same, Buffers, Compared, Desks};
 use reference::random::Random;
@@ -192,13 +192,24 @@ fn plates(random: &mut Random, report: &mut Report) -> Compared {
 
 fn damaged_plates(random: &mut Random, report: &mut Report) -> Compared {
     let mut plate = any_plate(random);
-    if once_in(random, 4) {
-        // Aimed, so that each of a sheet's numbers comes up often enough.
-        let number = random.between(11, 20) as u8;
-        aim_at_sheet(random, &mut plate, number);
-        report.feature("damaged sheets in plates");
-    } else {
-        damage_plate(random, &mut plate);
+    match random.below(16) {
+        0 => {
+            wrap_counts(random, &mut plate);
+            report.feature(WRAPPED);
+            let number = reading(report, &plate)?;
+            return same(
+                "the reading of counts that add to n + 256, and 41",
+                number,
+                41,
+            );
+        }
+        1..=4 => {
+            // Aimed, so that each of a sheet's numbers comes up often enough.
+            let number = random.between(11, 20) as u8;
+            aim_at_sheet(random, &mut plate, number);
+            report.feature("damaged sheets in plates");
+        }
+        _ => damage_plate(random, &mut plate),
     }
     reading(report, &plate).map(|_| ())
 }

@@ -64,6 +64,9 @@ fn numbers_of(call: Call) -> Vec<u8> {
 /// A workspace with a number too few, where that was the first no.
 pub const ONE_TOO_FEW: &str = "32,767, and refused with 22";
 
+/// Plates whose two counts, added as bytes, are n.
+pub const WRAPPED: &str = "plates with counts that add to n + 256";
+
 /// Refused plates, as the exported call has them.
 pub const EMPTY_START: &str = "refused plates with start 0, count 0";
 
@@ -72,7 +75,7 @@ pub const TRIED: &str = "bests by every choice, up to 12 points";
 pub const SEARCHED: &str = "bests by the search, above 12 points";
 
 /// Features that must have been seen.
-const FEATURES: [&str; 20] = [
+const FEATURES: [&str; 21] = [
     "best plates with every point inside",
     "best plates with points outside",
     TRIED,
@@ -86,6 +89,7 @@ const FEATURES: [&str; 20] = [
     "makings with longer buffers",
     "accepted plates that are not best",
     "damaged sheets in plates",
+    WRAPPED,
     EMPTY_START,
     "lists valid, shortfall 0",
     "lists valid, shortfall above 0",
