@@ -1,6 +1,6 @@
 //! Compares the proved library with the reference, call by call: document 01's worked examples that
-//! aren't marked (P), and thousands of made-up cases. It ends at the first difference, with the
-//! bytes in hand, the seed, and exit status 1.
+//! aren't marked (P), and thousands of made-up cases, from a fixed seed and then from a fresh one.
+//! It ends at the first difference, with the bytes in hand, the seeds, and exit status 1.
 
 #![deny(unsafe_code)]
 
@@ -22,25 +22,27 @@ use side_by_side::Compared;
 use std::io::{self, Read, Write};
 use std::panic::{catch_unwind, AssertUnwindSafe};
 use std::process::ExitCode;
-use std::time::Instant;
+use std::time::{Instant, SystemTime, UNIX_EPOCH};
 
 const USAGE: &str = "usage:
-  compare [--long] [--seed SEED]    all parts; --long has ten times as many cases
+  compare [--long] [--seed SEED]    all parts; --long has ten times as many cases, and --seed
+                                    gives the second seed, which is a fresh one otherwise
   compare repeat PART SEED          one case again
   compare write-conformance SEED    writes an input of the program conformance
   compare reference-conformance     what conformance must print for the input on stdin";
 
-const SEED: u64 = 1;
+/// The first seed of every run.
+const FIXED_SEED: u64 = 1;
 
 fn main() -> ExitCode {
     let arguments: Vec<String> = std::env::args().skip(1).collect();
     let arguments: Vec<&str> = arguments.iter().map(String::as_str).collect();
     let done = match arguments[..] {
-        [] => run_all(SEED, 1),
-        ["--long"] => run_all(SEED, 10),
-        ["--seed", seed] => number(seed).and_then(|seed| run_all(seed, 1)),
+        [] => fresh_seed().and_then(|seed| run_all(seed, false)),
+        ["--long"] => fresh_seed().and_then(|seed| run_all(seed, true)),
+        ["--seed", seed] => number(seed).and_then(|seed| run_all(seed, false)),
         ["--long", "--seed", seed] | ["--seed", seed, "--long"] => {
-            number(seed).and_then(|seed| run_all(seed, 10))
+            number(seed).and_then(|seed| run_all(seed, true))
         }
         ["repeat", part, seed] => number(seed).and_then(|seed| repeat(part, seed)),
         ["write-conformance", seed] => number(seed).and_then(write_conformance),
@@ -60,37 +62,71 @@ fn number(text: &str) -> Result<u64, String> {
     text.parse().map_err(|_| format!("not a number: {text}"))
 }
 
-/// All cases of the document, and so many times the default number of made-up ones.
-fn run_all(seed: u64, times: u64) -> Result<(), String> {
+/// A seed from the clock, another one for each run.
+fn fresh_seed() -> Result<u64, String> {
+    let time = SystemTime::now().duration_since(UNIX_EPOCH);
+    let time = time.map_err(|error| error.to_string())?;
+    Ok(Random::new(time.as_nanos() as u64).next_number())
+}
+
+/// All cases of the document, then the made-up ones of the fixed seed and of this one. A long run
+/// has ten times as many.
+fn run_all(seed: u64, long: bool) -> Result<(), String> {
     let start = Instant::now();
+    let (times, arguments) = match long {
+        true => (10, format!("--long --seed {seed}")),
+        false => (1, format!("--seed {seed}")),
+    };
+    println!(
+        "the proved library beside the reference: the fixed seed {FIXED_SEED}, then seed {seed}"
+    );
     let mut report = Report::default();
-    println!("the proved library beside the reference, seed {seed}");
-    for case in &CASES {
-        run_case(&mut report, |report| case.run(report))
-            .map_err(|message| failure(&report, &message, case.name))?;
-    }
-    println!("{:<20}{:>9} cases", "document 01", CASES.len());
-    for (part, index) in PARTS.iter().zip(1..) {
-        // Each part has its own seeds, whatever the other parts use.
-        let mut seeds = Random::new(seed.wrapping_mul(64).wrapping_add(index));
-        let before = Instant::now();
-        for _ in 0..part.cases * times {
-            run_seed(&mut report, part, seeds.next_number())?;
-        }
-        let (cases, time) = (part.cases * times, before.elapsed());
-        println!("{:<20}{cases:>9} cases {time:>8.1?}", part.name);
-    }
+    let done = run_document(&mut report)
+        .and_then(|()| run_parts(&mut report, FIXED_SEED, times))
+        .and_then(|()| run_parts(&mut report, seed, times));
+    done.map_err(|message| {
+        let again = format!("the whole run again with: compare/run {arguments}");
+        format!("{message}\nseeds {FIXED_SEED} and {seed}; {again}")
+    })?;
     println!("\n{}", report.tables());
-    let missing = report.missing();
-    if !missing.is_empty() {
-        return Err(format!("compare: FAILED\n{}", missing.join("\n")));
-    }
-    println!("all the same, in {:.1?}", start.elapsed());
+    let (cases, calls, time) = (report.cases(), report.calls(), start.elapsed());
+    println!("all the same: {cases} cases with {calls} calls, in {time:.1?}");
     Ok(())
 }
 
+fn run_document(report: &mut Report) -> Compared {
+    for case in &CASES {
+        run_case(report, |report| case.run(report))
+            .map_err(|message| failure(report, &message, case.name))?;
+    }
+    println!("{:<22}{:>9} cases", "document 01", CASES.len());
+    Ok(())
+}
+
+/// The made-up cases of a seed. What must be seen must be seen in them alone.
+fn run_parts(total: &mut Report, seed: u64, times: u64) -> Compared {
+    println!("seed {seed}");
+    let mut report = Report::default();
+    for (part, index) in PARTS.iter().zip(1..) {
+        // Each part has its own seeds, whatever the other parts use.
+        let mut seeds = Random::new(seed.wrapping_mul(64).wrapping_add(index));
+        let (cases, before) = (part.cases * times, Instant::now());
+        for _ in 0..cases {
+            run_seed(&mut report, part, seeds.next_number())?;
+        }
+        let time = before.elapsed();
+        println!("  {:<20}{cases:>9} cases {time:>8.1?}", part.name);
+    }
+    total.add(&report);
+    let missing = report.missing();
+    match missing.is_empty() {
+        true => Ok(()),
+        false => Err(format!("compare: FAILED\n{}", missing.join("\n"))),
+    }
+}
+
 /// One case of a part.
-fn run_seed(report: &mut Report, part: &Part, seed: u64) -> Result<(), String> {
+fn run_seed(report: &mut Report, part: &Part, seed: u64) -> Compared {
     run_case(report, |report| (part.run)(&mut Random::new(seed), report)).map_err(|message| {
         let again = format!(
             "{}, seed {seed}; again with: compare/run repeat {} {seed}",

@@ -11,7 +11,7 @@ use reference::{best_choice, Choice, Sheet, WORKSPACE_NUMBERS};
 
 pub struct Part {
     pub name: &'static str,
-    /// How many cases a default run has.
+    /// How many cases each seed of a plain run has.
     pub cases: u64,
     pub run: fn(&mut Random, &mut Report) -> Compared,
 }
@@ -19,27 +19,27 @@ pub struct Part {
 pub const PARTS: [Part; 6] = [
     Part {
         name: "sheets",
-        cases: 30_000,
+        cases: 40_000,
         run: sheets,
     },
     Part {
         name: "damaged-sheets",
-        cases: 40_000,
+        cases: 50_000,
         run: damaged_sheets,
     },
     Part {
         name: "plates",
-        cases: 15_000,
+        cases: 20_000,
         run: plates,
     },
     Part {
         name: "damaged-plates",
-        cases: 40_000,
+        cases: 50_000,
         run: damaged_plates,
     },
     Part {
         name: "desk-scripts",
-        cases: 200,
+        cases: 250,
         run: desk_script,
     },
     Part {
@@ -48,6 +48,18 @@ pub const PARTS: [Part; 6] = [
         run: desk_to_52,
     },
 ];
+
+/// The cases of all parts, for each seed of a plain run. A run has two seeds.
+const CASES_OF_A_SEED: u64 = {
+    let (mut cases, mut i) = (0, 0);
+    while i < PARTS.len() {
+        cases += PARTS[i].cases;
+        i += 1;
+    }
+    cases
+};
+
+const _: () = assert!(2 * CASES_OF_A_SEED >= 300_000);
 
 /// An accepted sheet: checked and made, and the plate read.
 fn sheets(random: &mut Random, report: &mut Report) -> Compared {

@@ -147,6 +147,7 @@ const KEPT: usize = 500;
 
 #[derive(Default)]
 pub struct Report {
+    cases: u64,
     counts: BTreeMap<Seen, u64>,
     held: VecDeque<(&'static str, Vec<u8>)>,
 }
@@ -154,6 +155,7 @@ pub struct Report {
 impl Report {
     /// A new case: no bytes in hand.
     pub fn new_case(&mut self) {
+        self.cases += 1;
         self.held.clear();
     }
 
@@ -193,8 +195,27 @@ impl Report {
         self.saw(Seen::Points(call, n));
     }
 
+    /// Adds what another report has seen.
+    pub fn add(&mut self, other: &Report) {
+        self.cases += other.cases;
+        for (&seen, count) in &other.counts {
+            *self.counts.entry(seen).or_default() += count;
+        }
+    }
+
     fn count(&self, seen: Seen) -> u64 {
         self.counts.get(&seen).copied().unwrap_or(0)
+    }
+
+    pub fn cases(&self) -> u64 {
+        self.cases
+    }
+
+    /// How many calls were compared.
+    pub fn calls(&self) -> u64 {
+        let answers = |seen: &Seen| matches!(seen, Seen::Answer(..));
+        let counts = self.counts.iter().filter(|(seen, _)| answers(seen));
+        counts.map(|(_, count)| count).sum()
     }
 
     /// What had to be seen, and wasn't or too seldom.
