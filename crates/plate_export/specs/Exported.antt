@@ -1,5 +1,5 @@
 -- What the exported calls answer, in the definitions of the calls inside. Assumes nothing.
-use mathlib.Core.Path.{_≡_, sym, ap, _∙_}
+use mathlib.Core.Path.{_≡_, refl, sym, ap, _∙_}
 use mathlib.Core.Bool.{true, false, cond, not}
 use mathlib.Core.List.{List}
 use Prim.Native.Nat.{ℕ}
@@ -14,51 +14,56 @@ use Rattle.format.specs.MakingQuestions.{makingNo, workspaceAfter}
 use Rattle.plate_maker.specs.Making.{makeOutcomeOf, BestOutput, Making}
 use Rattle.plate_maker.specs.declared.MakeAnswer.{MakeAnswer}
 use Rattle.plate_maker.specs.declared.MakeAnswer.the-variants.{Made, Refused}
+use Rattle.plate_export.specs.declared.MakeResult.{MakeResult}
+use Rattle.plate_export.specs.declared.ReadResult.{ReadResult}
 
 -- plate_make: make's promise, with the answer as the numbers of its outcome. Where the number is 0 the output holds a best plate (which
 -- best choice stays open, as in make), otherwise it is untouched.
-pub record MakingExported (s o w : List ℕ) (number written : ℕ) (o′ w′ : List ℕ) : Type 0 where
-  pub first-no : number ≡ makingNo s (length o) (length w)
-  pub length : written ≡ makeOutcomeOf s number .written
-  pub workspace : w′ ≡ workspaceAfter number w
-  pub output : cond (eqb number 0) (BestOutput s o o′) (o′ ≡ o)
+pub record MakingExported (s o w : List ℕ) (r : MakeResult) (o′ w′ : List ℕ) : Type 0 where
+  pub first-no : r .number ≡ makingNo s (length o) (length w)
+  pub spare : r .spare ≡ 0
+  pub length : r .written ≡ makeOutcomeOf s (r .number) .written
+  pub workspace : w′ ≡ workspaceAfter (r .number) w
+  pub output : cond (eqb (r .number) 0) (BestOutput s o o′) (o′ ≡ o)
 
 -- plate_read: the first no, and the stretch that the reader hands back.
-pub record ReadingExported (p : List ℕ) (number start count : ℕ) : Type 0 where
-  pub first-no : number ≡ plateNo p
-  pub at : start ≡ handedBackAt p
-  pub inside : count ≡ plateOutcomeOf p .inside
+pub record ReadingExported (p : List ℕ) (r : ReadResult) : Type 0 where
+  pub first-no : r .number ≡ plateNo p
+  pub spare : r .spare ≡ 0
+  pub at : r .«inside_start» ≡ handedBackAt p
+  pub inside : r .«inside_count» ≡ plateOutcomeOf p .inside
 
 -- FROM READ_PLATE'S CONTRACT
 
-pub exported-accepted : (p : List ℕ) (a : PlateAnswer) (i start : ℕ) → plateOutcome a ≡ plateOutcomeOf p → a ≡ AcceptedPlate i → start ≡ insideStart p → ReadingExported p 0 start i
+pub exported-accepted : (p : List ℕ) (a : PlateAnswer) (i start : ℕ) → plateOutcome a ≡ plateOutcomeOf p → a ≡ AcceptedPlate i → start ≡ insideStart p → ReadingExported p (record { number = 0; spare = 0; «inside_start» = start; «inside_count» = i })
 unfolding handedBackAt
 exported-accepted p a i start e q s =
     let f : plateOutcome (AcceptedPlate i) ≡ plateOutcomeOf p = ap plateOutcome (sym q) ∙ e in
     let z : 0 ≡ plateNo p = λ d. f d .number in
-    record { first-no = z; at = rw (← z) s; inside = λ d. f d .inside }
+    record { first-no = z; spare = refl; at = rw (← z) s; inside = λ d. f d .inside }
 
-pub exported-refused-plate : (p : List ℕ) (a : PlateAnswer) (k : ℕ) → plateOutcome a ≡ plateOutcomeOf p → a ≡ RefusedPlate k → ReadingExported p k 0 0
+pub exported-refused-plate : (p : List ℕ) (a : PlateAnswer) (k : ℕ) → plateOutcome a ≡ plateOutcomeOf p → a ≡ RefusedPlate k → ReadingExported p (record { number = k; spare = 0; «inside_start» = 0; «inside_count» = 0 })
 unfolding handedBackAt
 exported-refused-plate p a k e q =
     let f : plateOutcome (RefusedPlate k) ≡ plateOutcomeOf p = ap plateOutcome (sym q) ∙ e in
     let g : eqb (plateNo p) 0 ≡ false = not-true _ (sym (λ d. f d .refused)) in
-    record { first-no = λ d. f d .number; at = rw g; inside = λ d. f d .inside }
+    record { first-no = λ d. f d .number; spare = refl; at = rw g; inside = λ d. f d .inside }
 
 -- FROM MAKE'S PROMISE
 
-pub exported-made : {s o w o′ w′ : List ℕ} {k : ℕ} (a : MakeAnswer) → Making s o w a o′ w′ → a ≡ Made k → MakingExported s o w 0 k o′ w′
+pub exported-made : {s o w o′ w′ : List ℕ} {k : ℕ} (a : MakeAnswer) → Making s o w a o′ w′ → a ≡ Made k → MakingExported s o w (record { number = 0; spare = 0; written = k }) o′ w′
 exported-made {s} {o} {w} {o′} {w′} {k} a m e =
     let m′ : Making s o w (Made k) o′ w′ = rw e at m in
     let z : 0 ≡ makingNo s (length o) (length w) = λ i. m′ .outcome i .number in
     record {
       first-no = z;
+      spare = refl;
       length = (λ i. m′ .outcome i .written) ∙ ap (λ (n : ℕ). makeOutcomeOf s n .written) (sym z);
       workspace = m′ .workspace;
       output = m′ .output;
     }
 
-pub exported-refused : {s o w o′ w′ : List ℕ} {k : ℕ} (a : MakeAnswer) → Making s o w a o′ w′ → a ≡ Refused k → MakingExported s o w k 0 o′ w′
+pub exported-refused : {s o w o′ w′ : List ℕ} {k : ℕ} (a : MakeAnswer) → Making s o w a o′ w′ → a ≡ Refused k → MakingExported s o w (record { number = k; spare = 0; written = 0 }) o′ w′
 exported-refused {s} {o} {w} {o′} {w′} {k} a m e =
     let m′ : Making s o w (Refused k) o′ w′ = rw e at m in
     let z : k ≡ makingNo s (length o) (length w) = λ i. m′ .outcome i .number in
@@ -66,6 +71,7 @@ exported-refused {s} {o} {w} {o′} {w′} {k} a m e =
     let g : eqb k 0 ≡ false = ap (λ (n : ℕ). eqb n 0) z ∙ not-true _ (sym f) in
     record {
       first-no = z;
+      spare = refl;
       length = (λ i. m′ .outcome i .written) ∙ ap (λ (n : ℕ). makeOutcomeOf s n .written) (sym z);
       workspace = m′ .workspace;
       output = rw g (m′ .output);

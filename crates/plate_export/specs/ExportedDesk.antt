@@ -17,12 +17,13 @@ use Rattle.plate_export.specs.declared.DeskState.{DeskState}
 use Rattle.plate_export.specs.declared.DeskLoadResult.{DeskLoadResult}
 use Rattle.plate_export.specs.declared.DeskMarkResult.{DeskMarkResult}
 
--- The desk that a caller's struct stands for, and the struct for a desk: field for field.
+-- The desk that a caller's struct stands for, whatever its spare byte, and the struct for a desk, with the spare byte 0: otherwise field
+-- for field.
 abbrev pub deskOf : DeskState → Desk
 deskOf d = record { sheet = d .sheet; loaded = d .loaded; best = d .best; last = d .last }
 
 abbrev pub stateOf : Desk → DeskState
-stateOf d = record { sheet = d .sheet; loaded = d .loaded; best = d .best; last = d .last }
+stateOf d = record { sheet = d .sheet; loaded = d .loaded; spare = 0; best = d .best; last = d .last }
 
 -- LOAD
 
@@ -51,24 +52,25 @@ answerReply d (Refused k) = record { desk = d; number = k; «list_number» = 0; 
 abbrev pub markReply : MarkResult → DeskMarkResult
 markReply r = answerReply (stateOf (r .desk)) (r .answer)
 
--- FROM THE CONTRACTS OF LOAD AND MARK, with the desk e that the struct d was turned into, and the struct a made of the desk handed back
+-- FROM THE CONTRACTS OF LOAD AND MARK, with the desk e that the caller's struct was turned into, d by desk_of's contract, and the struct a
+-- made of the desk handed back
 
-pub load-replied : (d : DeskState) (s w w′ : List ℕ) (e : Desk) (r : LoadResult) (a : DeskState) (k : ℕ) →
-    e ≡ deskOf d →
+pub load-replied : (d : Desk) (s w w′ : List ℕ) (e : Desk) (r : LoadResult) (a : DeskState) (k : ℕ) →
+    e ≡ d →
     (r ≡ loadOf e s w) × (w′ ≡ workspaceAfter (loadOutcome (r .answer) .number) w) →
     a ≡ stateOf (r .desk) →
     loadOutcome (r .answer) .number ≡ k →
-    (record { desk = a; number = k } ≡ loadReply (loadOf (deskOf d) s w)) × (w′ ≡ workspaceAfter k w)
+    (record { desk = a; number = k } ≡ loadReply (loadOf d s w)) × (w′ ≡ workspaceAfter k w)
 load-replied d s w w′ e r a k p q f n = (
   ap₂ (λ (x : DeskState) (m : ℕ). record { desk = x; number = m }) f (sym n) ∙ ap loadReply (q .0) ∙ ap (λ x. loadReply (loadOf x s w)) p,
   q .1 ∙ ap (λ (m : ℕ). workspaceAfter m w) n,
 )
 
-pub mark-replied : (d : DeskState) (l : List ℕ) (e : Desk) (r : MarkResult) (a : DeskState) (x : MarkAnswer) (t : DeskMarkResult) →
-    e ≡ deskOf d →
+pub mark-replied : (d : Desk) (l : List ℕ) (e : Desk) (r : MarkResult) (a : DeskState) (x : MarkAnswer) (t : DeskMarkResult) →
+    e ≡ d →
     r ≡ markOf e l →
     a ≡ stateOf (r .desk) →
     r .answer ≡ x →
     t ≡ answerReply a x →
-    t ≡ markReply (markOf (deskOf d) l)
+    t ≡ markReply (markOf d l)
 mark-replied d l e r a x t p q f n y = y ∙ ap₂ answerReply f (sym n) ∙ ap markReply q ∙ ap (λ z. markReply (markOf z l)) p

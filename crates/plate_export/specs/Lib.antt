@@ -1,2 +1,3 @@
+pub mod DemandThreeExported
 pub mod Exported
 pub mod ExportedDesk

@@ -1,4 +1,5 @@
-// The calls for other languages, over numbers, slices and plain structs.
+// The calls for other languages, over numbers, slices and plain structs. No byte of a struct is left unset: a spare field, always 0 in what
+// is returned, stands where C's alignment would leave some.
 ghost use mathlib.Core.Path.{_≡_};
 ghost use Rattle.format.specs.Sheet.{sheetNo};
 ghost use Rattle.format.specs.MakingQuestions.{workspaceAfter};
@@ -29,21 +30,24 @@ pub extern "C" fn plate_check_sheet(sheet: &[u8]) -> u32
 #[repr(C)]
 pub struct MakeResult {
     pub number: u32,
+    pub spare: u32,
     pub written: u64,
 }
 
 // plate_maker::make.
 #[no_mangle]
 pub extern "C" fn plate_make(sheet: &[u8], output: &mut [u8], workspace: &mut [u16]) -> MakeResult
-    ensures { λ r. ⌜ MakingExported (now (sheet .entry)) (now (output .entry)) (now (workspace .entry)) (r .number) (r .written) (now (output .exit)) (now (workspace .exit)) ⌝ }
+    ensures { λ r. ⌜ MakingExported (now (sheet .entry)) (now (output .entry)) (now (workspace .entry)) r (now (output .exit)) (now (workspace .exit)) ⌝ }
 {
     match plate_maker::make(sheet, output, workspace) {
         MakeAnswer::Made(written) => MakeResult {
             number: 0,
+            spare: 0,
             written: written as u64,
         },
         MakeAnswer::Refused(number) => MakeResult {
             number: number as u32,
+            spare: 0,
             written: 0,
         },
     }
@@ -54,6 +58,7 @@ pub extern "C" fn plate_make(sheet: &[u8], output: &mut [u8], workspace: &mut [u
 #[repr(C)]
 pub struct ReadResult {
     pub number: u32,
+    pub spare: u32,
     pub inside_start: u64,
     pub inside_count: u64,
 }
@@ -61,27 +66,30 @@ pub struct ReadResult {
 // plate_reader::read_plate.
 #[no_mangle]
 pub extern "C" fn plate_read(plate: &[u8]) -> ReadResult
-    ensures { λ r. ⌜ ReadingExported (now (plate .entry)) (r .number) (r .«inside_start») (r .«inside_count») ⌝ }
+    ensures { λ r. ⌜ ReadingExported (now (plate .entry)) r ⌝ }
 {
     match plate_reader::read_plate(plate) {
         PlateAnswer::Accepted(count) => ReadResult {
             number: 0,
+            spare: 0,
             inside_start: 11 + 6 * format::point_count(plate) as u64,
             inside_count: count as u64,
         },
         PlateAnswer::Refused(number) => ReadResult {
             number: number as u32,
+            spare: 0,
             inside_start: 0,
             inside_count: 0,
         },
     }
 }
 
-// A desk, field for field that of the crate desk.
+// A desk, field for field that of the crate desk. The spare byte of a desk that comes in is ignored.
 #[repr(C)]
 pub struct DeskState {
     pub sheet: [u8; 202],
     pub loaded: bool,
+    pub spare: u8,
     pub best: u16,
     pub last: u16,
 }
@@ -127,6 +135,7 @@ fn state_of(desk: Desk) -> DeskState
     DeskState {
         sheet,
         loaded: desk.loaded,
+        spare: 0,
         best: desk.best,
         last: desk.last,
     }
