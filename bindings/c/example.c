@@ -4,10 +4,6 @@
 
 #include <stdio.h>
 
-_Static_assert(sizeof(struct desk_state) == 208, "the desk's layout");
-_Static_assert(sizeof(struct desk_load_result) == 212, "the load's layout");
-_Static_assert(sizeof(struct desk_mark_result) == 236, "the mark's layout");
-
 /* Map 20 by 10, label 4 by 2, points 17 at (2,3), 18 at (4,4), 19 at (10,7). */
 static const uint8_t P1[28] = {
     0x01, 0x14, 0x00, 0x0a, 0x00, 0x04, 0x00, 0x02, 0x00, 0x03,

@@ -1,14 +1,27 @@
-/* Call-sign plates: the proved calls, for C.
+/* Call-sign plates: the proved calls, for C11 and C++11 on x86-64 Linux.
 
-   A slice is a pointer and then a count. For the whole call the pointer is
-   valid for its count (written ones for writing), it fits its type's alignment,
-   and a slice that is written overlaps no other. An empty slice may have any
-   pointer that isn't null. Nothing else is asked: any bytes at all may be lent.
+   Linking. The library is one archive, libplate_export.a, which needs nothing
+   but the C library. `rt staticlib plate_export` writes it to the repository's
+   target/staticlib:
+       cc -I bindings/c program.c target/staticlib/libplate_export.a
+   or, once `bindings/install PREFIX` has put header, archive and plates.pc there,
+   with PKG_CONFIG_PATH=PREFIX/lib/pkgconfig:
+       cc program.c $(pkg-config --cflags --libs plates)
 
-   Numbers of refusals are those of the questions in document 01; the first
+   Slices. A slice is a pointer and then a count. For the whole call the pointer
+   is valid for its count (written ones for writing), it fits its type's
+   alignment, nobody else changes what is lent, and a slice that is written
+   overlaps no other. A slice of count 0 may have any pointer, NULL too: nothing
+   is read or written there. Nothing else is asked: any bytes at all may be lent.
+
+   Refusals. Their numbers are those of the questions in document 01; the first
    question answered no ends a call. A refused call writes nothing.
 
-   Structs go by value as the x86-64 C ABI has it. Link with libplate_export.a. */
+   Structs. They go by value as the x86-64 C ABI has it. They have no padding: a
+   field `spare` stands where it would be, and is 0 in all that is returned, so
+   results can be compared byte by byte.
+
+   The library keeps nothing between calls, and calls may run at the same time. */
 #ifndef PLATES_H
 #define PLATES_H
 
@@ -17,8 +30,14 @@
 #include <stdint.h>
 
 #ifdef __cplusplus
+#define PLATES_SAME(a, b) static_assert((a) == (b), "the layout of the library's structs")
 extern "C" {
+#else
+#define PLATES_SAME(a, b) _Static_assert((a) == (b), "the layout of the library's structs")
 #endif
+
+/* The library's counts have 64 bits. */
+PLATES_SAME(sizeof(size_t), 8);
 
 /* How many 16-bit numbers of workspace a making or a load asks for. */
 #define PLATE_WORKSPACE 32768
@@ -35,8 +54,10 @@ uint32_t plate_check_sheet(const uint8_t *sheet, size_t sheet_len);
    plate are untouched, and the whole workspace is zero afterwards. */
 struct plate_make_result {
     uint32_t number;
+    uint32_t spare; /* 0 */
     uint64_t written;
 };
+PLATES_SAME(sizeof(struct plate_make_result), 4 + 4 + 8);
 struct plate_make_result plate_make(const uint8_t *sheet, size_t sheet_len,
                                     uint8_t *output, size_t output_len,
                                     uint16_t *workspace, size_t workspace_len);
@@ -46,19 +67,28 @@ struct plate_make_result plate_make(const uint8_t *sheet, size_t sheet_len,
    inside_start on; both are 0 on a refusal. */
 struct plate_read_result {
     uint32_t number;
+    uint32_t spare; /* 0 */
     uint64_t inside_start;
     uint64_t inside_count;
 };
+PLATES_SAME(sizeof(struct plate_read_result), 4 + 4 + 8 + 8);
 struct plate_read_result plate_read(const uint8_t *plate, size_t plate_len);
 
 /* A desk, by value. Get one from desk_new, and hand each call the desk that the
-   call before it handed back. The fields are the library's own. */
+   call before it handed back: after a refusal that is the same one. A desk that
+   two calls are given gives both the same number.
+
+   The fields may be read. With a desk that no calls from desk_new on handed back
+   a call still ends, but nothing is promised of its best and its numbers. */
 struct desk_state {
-    uint8_t sheet[202];
-    bool loaded;
-    uint16_t best;
-    uint16_t last;
+    uint8_t sheet[202]; /* the loaded sheet, then zeros; zeros if none is loaded */
+    bool loaded;        /* whether a sheet is loaded; its byte is 0 or 1, and a
+                           desk with any other must not be handed to a call */
+    uint8_t spare;      /* 0, and ignored in a desk that is handed to a call */
+    uint16_t best;      /* the best count of the loaded sheet, else 0 */
+    uint16_t last;      /* the number of the list marked last, 0 before the first */
 };
+PLATES_SAME(sizeof(struct desk_state), 202 + 1 + 1 + 2 + 2);
 struct desk_state desk_new(void);
 
 /* A load. The number is that of the first no (11 to 20, 22), 0 if the sheet is
@@ -67,6 +97,7 @@ struct desk_load_result {
     struct desk_state desk;
     uint32_t number;
 };
+PLATES_SAME(sizeof(struct desk_load_result), 208 + 4);
 struct desk_load_result desk_load(struct desk_state desk,
                                   const uint8_t *sheet, size_t sheet_len,
                                   uint16_t *workspace, size_t workspace_len);
@@ -90,8 +121,11 @@ struct desk_mark_result {
     uint32_t first;
     uint32_t second;
 };
+PLATES_SAME(sizeof(struct desk_mark_result), 208 + 7 * 4);
 struct desk_mark_result desk_mark(struct desk_state desk,
                                   const uint8_t *list, size_t list_len);
+
+#undef PLATES_SAME
 
 #ifdef __cplusplus
 }

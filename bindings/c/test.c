@@ -1,0 +1,151 @@
+/* What plates.h says of slices of count 0, of the structs' bytes and of a desk's
+   fields. `bindings/run` builds and runs it; it prints what doesn't hold. */
+#include "plates.h"
+
+#include <stdio.h>
+#include <string.h>
+
+static int failures;
+
+#define CHECK(holds) check(holds, #holds, __LINE__)
+
+static void check(bool holds, const char *what, int line)
+{
+    if (holds)
+        return;
+    printf("test.c:%d: %s doesn't hold\n", line, what);
+    failures++;
+}
+
+/* Document 01's P1: the best count is 2. Its plate adds 02 01 02 01 00 00. */
+static const uint8_t P1[28] = {
+    0x01, 0x14, 0x00, 0x0a, 0x00, 0x04, 0x00, 0x02, 0x00, 0x03,
+    0x11, 0x00, 0x02, 0x00, 0x03, 0x00,
+    0x12, 0x00, 0x04, 0x00, 0x04, 0x00,
+    0x13, 0x00, 0x0a, 0x00, 0x07, 0x00,
+};
+
+static uint16_t workspace[PLATE_WORKSPACE];
+
+/* Leaves no zero where the next call puts its result, so that a byte that it
+   doesn't set is found. */
+static __attribute__((noinline)) void fill_stack(void)
+{
+    volatile uint8_t room[16384];
+    for (size_t i = 0; i < sizeof room; i++)
+        room[i] = 0xee;
+}
+
+static bool same(const void *a, const void *b, size_t count)
+{
+    return memcmp(a, b, count) == 0;
+}
+
+static struct desk_state loaded_desk(void)
+{
+    struct desk_load_result loaded =
+        desk_load(desk_new(), P1, sizeof P1, workspace, PLATE_WORKSPACE);
+    CHECK(loaded.number == 0);
+    return loaded.desk;
+}
+
+static void null_with_count_0(void)
+{
+    uint8_t output[36];
+    struct desk_state fresh = desk_new(), desk = loaded_desk();
+    CHECK(plate_check_sheet(NULL, 0) == 11);
+    CHECK(plate_make(NULL, 0, NULL, 0, NULL, 0).number == 11);
+    CHECK(plate_make(P1, sizeof P1, NULL, 0, workspace, PLATE_WORKSPACE).number == 21);
+    CHECK(plate_make(P1, sizeof P1, output, sizeof output, NULL, 0).number == 22);
+    CHECK(plate_read(NULL, 0).number == 11);
+    CHECK(desk_load(fresh, NULL, 0, NULL, 0).number == 11);
+    CHECK(desk_load(fresh, P1, sizeof P1, NULL, 0).number == 22);
+    CHECK(desk_mark(fresh, NULL, 0).number == 51);
+    CHECK(desk_mark(desk, NULL, 0).number == 31);
+}
+
+static void bytes_of_a_making(void)
+{
+    uint8_t output[PLATE_OUTPUT];
+    fill_stack();
+    struct plate_make_result made =
+        plate_make(P1, sizeof P1, output, sizeof output, workspace, PLATE_WORKSPACE);
+    const struct plate_make_result expected = {.written = 34};
+    CHECK(same(&made, &expected, sizeof made));
+    fill_stack();
+    made = plate_make(P1, sizeof P1 - 1, output, sizeof output, workspace, PLATE_WORKSPACE);
+    const struct plate_make_result refused = {.number = 16};
+    CHECK(same(&made, &refused, sizeof made));
+}
+
+static void bytes_of_a_reading(void)
+{
+    uint8_t plate[34] = {0};
+    memcpy(plate, P1, sizeof P1);
+    memcpy(plate + sizeof P1, (const uint8_t[]){2, 1, 2, 1, 0, 0}, 6);
+    fill_stack();
+    struct plate_read_result read = plate_read(plate, sizeof plate);
+    const struct plate_read_result expected = {.inside_start = 29, .inside_count = 2};
+    CHECK(same(&read, &expected, sizeof read));
+    fill_stack();
+    read = plate_read(plate, sizeof plate - 1);
+    const struct plate_read_result refused = {.number = 41};
+    CHECK(same(&read, &refused, sizeof read));
+}
+
+static void bytes_of_a_desk(void)
+{
+    struct desk_state expected = {0};
+    fill_stack();
+    struct desk_state desk = desk_new();
+    CHECK(same(&desk, &expected, sizeof desk));
+
+    memcpy(expected.sheet, P1, sizeof P1);
+    expected.loaded = true;
+    expected.best = 2;
+    fill_stack();
+    desk = loaded_desk();
+    CHECK(same(&desk, &expected, sizeof desk));
+
+    static const uint8_t none[] = {0}, no_list[] = {1};
+    fill_stack();
+    struct desk_mark_result marked = desk_mark(desk, none, sizeof none);
+    expected.last = 1;
+    const struct desk_mark_result valid = {
+        .desk = expected, .list_number = 1, .verdict = DESK_VALID, .shortfall = 2};
+    CHECK(same(&marked, &valid, sizeof marked));
+
+    fill_stack();
+    marked = desk_mark(marked.desk, no_list, sizeof no_list);
+    const struct desk_mark_result refused = {.desk = expected, .number = 31};
+    CHECK(same(&marked, &refused, sizeof marked));
+
+    fill_stack();
+    struct desk_load_result loaded =
+        desk_load(marked.desk, P1, 9, workspace, PLATE_WORKSPACE);
+    const struct desk_load_result too_short = {.desk = expected, .number = 11};
+    CHECK(same(&loaded, &too_short, sizeof loaded));
+}
+
+static void a_spare_byte_is_ignored(void)
+{
+    static const uint8_t best[] = {2, 1, 2};
+    struct desk_state desk = loaded_desk();
+    struct desk_mark_result marked = desk_mark(desk, best, sizeof best);
+    desk.spare = 0xff;
+    struct desk_mark_result again = desk_mark(desk, best, sizeof best);
+    CHECK(again.list_number == 1 && again.desk.spare == 0);
+    CHECK(same(&again, &marked, sizeof again));
+    struct desk_load_result refused = desk_load(desk, NULL, 0, NULL, 0);
+    CHECK(refused.number == 11 && refused.desk.spare == 0);
+}
+
+int main(void)
+{
+    null_with_count_0();
+    bytes_of_a_making();
+    bytes_of_a_reading();
+    bytes_of_a_desk();
+    a_spare_byte_is_ignored();
+    return failures != 0;
+}
