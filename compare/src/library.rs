@@ -22,6 +22,7 @@ pub fn read_plate(plate: &[u8]) -> Result<&[u8], u8> {
 /// starts and its count. The wrapper hands nothing of a refused plate on.
 pub fn exported_read(plate: &[u8]) -> (u32, u64, u64) {
     let read = exported::read(plate);
+    assert_eq!(read.spare, 0, "the spare field of a reading");
     (read.number, read.inside_start, read.inside_count)
 }
 
@@ -36,7 +37,7 @@ impl Desk {
 
     /// Another desk with the same value.
     pub fn copy(&self) -> Desk {
-        Desk(self.0.clone())
+        Desk(self.0.fork())
     }
 
     pub fn load(self, sheet: &[u8], workspace: &mut [u16]) -> (Desk, Result<(), u8>) {
@@ -51,8 +52,8 @@ impl Desk {
 }
 
 /// The number of a refusal.
-fn number(refusal: u8) -> u8 {
-    refusal
+fn number(refusal: plates::Refusal) -> u8 {
+    refusal.number()
 }
 
 fn marked(marked: plates::Marked) -> Marked {
@@ -88,14 +89,13 @@ mod exported {
     #[repr(C)]
     pub struct ReadResult {
         pub number: u32,
+        pub spare: u32,
         pub inside_start: u64,
         pub inside_count: u64,
     }
 
     const _: () = assert!(size_of::<ReadResult>() == 24);
-    const _: () = assert!(offset_of!(ReadResult, number) == 0);
     const _: () = assert!(offset_of!(ReadResult, inside_start) == 8);
-    const _: () = assert!(offset_of!(ReadResult, inside_count) == 16);
 
     extern "C" {
         fn plate_read(plate: *const u8, plate_len: usize) -> ReadResult;

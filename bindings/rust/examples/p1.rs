@@ -1,7 +1,8 @@
 //! Document 01's P1 and its desk example. `bindings/run` builds and runs it, and
 //! compares what it prints with bindings/expected.
 
-use plates::{check_sheet, make, read_plate, ClashKind, Desk, Verdict, OUTPUT, WORKSPACE};
+use plates::{check_sheet, make, read_plate, ClashKind, Desk, Refusal, Verdict};
+use plates::{OUTPUT, WORKSPACE};
 
 /// Map 20 by 10, label 4 by 2, points 17 at (2,3), 18 at (4,4), 19 at (10,7).
 const P1: [u8; 28] = [
@@ -11,29 +12,29 @@ const P1: [u8; 28] = [
     0x13, 0x00, 0x0a, 0x00, 0x07, 0x00,
 ];
 
-fn main() {
-    println!("check {}", check_sheet(&P1).err().unwrap_or(0));
-    println!("check {}", check_sheet(&P1[..27]).err().unwrap_or(0));
+fn main() -> Result<(), Refusal> {
+    println!("check {}", number(check_sheet(&P1)));
+    println!("check {}", number(check_sheet(&P1[..27])));
 
     let mut output = [0; OUTPUT];
     let mut workspace = vec![0; WORKSPACE];
-    let written = match make(&P1, &mut output, &mut workspace) {
-        Ok(written) => written,
-        Err(number) => return println!("refused {number}"),
-    };
+    let written = make(&P1, &mut output, &mut workspace)?;
     let plate = &output[..written];
     print_bytes("plate", plate);
-    match read_plate(plate) {
-        Ok(inside) => print_bytes("inside", inside),
-        Err(number) => println!("refused {number}"),
-    }
+    print_bytes("inside", read_plate(plate)?);
 
     let desk = mark(Desk::new(), &[2, 1, 2]);
     let (desk, loaded) = desk.load(&P1, &mut workspace);
-    println!("load {}", loaded.err().unwrap_or(0));
+    println!("load {}", number(loaded));
     let desk = mark(desk, &[2, 1, 2]);
     let desk = mark(desk, &[1, 0]);
     mark(desk, &[0]);
+    Ok(())
+}
+
+/// The number of a refusal, 0 if there is none.
+fn number(answer: Result<(), Refusal>) -> u8 {
+    answer.err().map_or(0, Refusal::number)
 }
 
 fn print_bytes(name: &str, bytes: &[u8]) {
@@ -45,7 +46,7 @@ fn print_bytes(name: &str, bytes: &[u8]) {
 fn mark(desk: Desk, list: &[u8]) -> Desk {
     let (desk, answer) = desk.mark(list);
     match answer.map(|marked| (marked.number, marked.verdict)) {
-        Err(number) => println!("refused {number}"),
+        Err(refusal) => println!("refused {}", refusal.number()),
         Ok((number, Verdict::Valid { count, shortfall })) => {
             println!("{number} valid {count} {shortfall}");
         }

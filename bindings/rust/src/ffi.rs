@@ -5,19 +5,25 @@
 //! same Rust slice, so it is aligned, not null, valid for that length during
 //! the call, and writable where the library writes; `&mut` slices overlap no
 //! other. The library keeps no pointer and has no state of its own. The structs
-//! consist of numbers only, so any bits that come back are a value of them.
+//! consist of numbers only, so any bits that come back are a value of them; and a
+//! desk's `loaded`, a bool to the library, is 0 or 1 in every [`crate::Desk`]:
+//! [`crate::Desk`] is only made after a look at it.
 
 #![allow(unsafe_code)]
+
+use std::mem::size_of;
 
 #[repr(C)]
 pub struct MakeResult {
     pub number: u32,
+    pub spare: u32,
     pub written: u64,
 }
 
 #[repr(C)]
 pub struct ReadResult {
     pub number: u32,
+    pub spare: u32,
     pub inside_start: u64,
     pub inside_count: u64,
 }
@@ -25,11 +31,13 @@ pub struct ReadResult {
 #[repr(C)]
 #[derive(Clone, Debug, PartialEq, Eq)]
 pub struct DeskState {
-    sheet: [u8; 202],
-    /// A bool in C. As a number it can be looked at before it is believed.
+    pub sheet: [u8; 202],
+    /// A bool in C. As a number it can be looked at before it is believed. Only 0
+    /// and 1 may be handed to the library.
     pub loaded: u8,
-    best: u16,
-    last: u16,
+    pub spare: u8,
+    pub best: u16,
+    pub last: u16,
 }
 
 #[repr(C)]
@@ -50,12 +58,12 @@ pub struct DeskMarkResult {
     pub second: u32,
 }
 
-// The sizes that C gives these structs on x86-64.
-const _: () = assert!(size_of::<MakeResult>() == 16);
-const _: () = assert!(size_of::<ReadResult>() == 24);
-const _: () = assert!(size_of::<DeskState>() == 208);
-const _: () = assert!(size_of::<DeskLoadResult>() == 212);
-const _: () = assert!(size_of::<DeskMarkResult>() == 236);
+// The sums of the fields' sizes: no byte is padding.
+const _: () = assert!(size_of::<MakeResult>() == 4 + 4 + 8);
+const _: () = assert!(size_of::<ReadResult>() == 4 + 4 + 8 + 8);
+const _: () = assert!(size_of::<DeskState>() == 202 + 1 + 1 + 2 + 2);
+const _: () = assert!(size_of::<DeskLoadResult>() == 208 + 4);
+const _: () = assert!(size_of::<DeskMarkResult>() == 208 + 7 * 4);
 
 mod library {
     use super::{DeskLoadResult, DeskMarkResult, DeskState, MakeResult, ReadResult};

@@ -1,44 +1,36 @@
 //! What the library is lent: empty slices, and slices at any place in a buffer.
-//! `bindings/run` runs these tests.
 
+use crate::{load, number, P3};
 use plates::{check_sheet, make, read_plate, Desk, WORKSPACE};
 
-/// Map 20 by 12, label 4 by 2, points (2,3) and (6,4): document 01's P3.
-const P3: [u8; 22] = [
-    1, 20, 0, 12, 0, 4, 0, 2, 0, 2, // the frame, n
-    1, 0, 2, 0, 3, 0, //
-    2, 0, 6, 0, 4, 0,
-];
-
-/// Both points inside.
+/// P3 with both points inside adds these bytes.
 const PLATE: [u8; 4] = [2, 0, 1, 0];
 
 #[test]
 fn empty_slices() {
-    assert_eq!(check_sheet(&[]), Err(11));
-    assert_eq!(make(&[], &mut [], &mut []), Err(11));
-    assert_eq!(make(&P3, &mut [], &mut []), Err(21));
-    assert_eq!(make(&P3, &mut [0; 28], &mut []), Err(22));
-    assert_eq!(read_plate(&[]), Err(11));
+    assert_eq!(number(check_sheet(&[])), 11);
+    assert_eq!(number(make(&[], &mut [], &mut [])), 11);
+    assert_eq!(number(make(&P3, &mut [], &mut [])), 21);
+    assert_eq!(number(make(&P3, &mut [0; 28], &mut [])), 22);
+    assert_eq!(number(read_plate(&[])), 11);
     let (desk, loaded) = Desk::new().load(&[], &mut []);
-    assert_eq!((&desk, loaded), (&Desk::new(), Err(11)));
+    assert_eq!((&desk, number(loaded)), (&Desk::new(), 11));
     let (desk, loaded) = desk.load(&P3, &mut []);
-    assert_eq!((&desk, loaded), (&Desk::new(), Err(22)));
+    assert_eq!((&desk, number(loaded)), (&Desk::new(), 22));
     let (desk, marked) = desk.mark(&[]);
-    assert_eq!((&desk, marked), (&Desk::new(), Err(51)));
-    let (desk, loaded) = desk.load(&P3, &mut vec![1; WORKSPACE]);
-    assert_eq!(loaded, Ok(()));
-    let before = desk.clone();
-    assert_eq!(desk.mark(&[]), (before, Err(31)));
+    assert_eq!((&desk, number(marked)), (&Desk::new(), 51));
+    let before = load(desk, &P3);
+    let (desk, marked) = before.fork().mark(&[]);
+    assert_eq!((desk, number(marked)), (before, 31));
 }
 
 /// The empty end of a buffer has an address of its own, just past the bytes.
 #[test]
 fn empty_ends() {
     let end = &P3[P3.len()..];
-    assert_eq!(check_sheet(end), Err(11));
-    assert_eq!(read_plate(end), Err(11));
-    assert_eq!(Desk::new().mark(end).1, Err(51));
+    assert_eq!(number(check_sheet(end)), 11);
+    assert_eq!(number(read_plate(end)), 11);
+    assert_eq!(number(Desk::new().mark(end).1), 51);
 }
 
 /// Odd and even addresses, neighbours before and after every slice.

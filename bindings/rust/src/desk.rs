@@ -1,0 +1,227 @@
+//! The marking desk, and what a mark answers.
+
+use crate::{answer, ffi, promised, Refusal};
+
+/// A marking desk: a sheet with its best count, and the last number given.
+///
+/// Each call takes the desk and hands the next one back, after a refusal the same
+/// as before. Because a desk can't be cloned by the way, no two lists get the
+/// same number unless someone asks for it, by [`Desk::fork`] or by restoring the
+/// same bytes twice.
+#[derive(Debug, PartialEq, Eq)]
+pub struct Desk {
+    pub(crate) state: ffi::DeskState,
+}
+
+/// The answer to a marked list.
+#[derive(Clone, Copy, Debug, PartialEq, Eq)]
+pub struct Marked {
+    /// The list's number.
+    pub number: u16,
+    /// The verdict.
+    pub verdict: Verdict,
+}
+
+/// The verdict on a marked list.
+#[derive(Clone, Copy, Debug, PartialEq, Eq)]
+pub enum Verdict {
+    /// The list's choice is valid.
+    Valid {
+        /// How many positions the list has.
+        count: u16,
+        /// How many fewer that is than the best count.
+        shortfall: u16,
+    },
+    /// Two points clash: the pair with the smallest first position, then the
+    /// smallest second.
+    Clash {
+        /// The lesser position.
+        first: u8,
+        /// The greater position.
+        second: u8,
+        /// What met.
+        kind: ClashKind,
+    },
+}
+
+/// What met in a clash.
+#[derive(Clone, Copy, Debug, PartialEq, Eq)]
+pub enum ClashKind {
+    /// Two labels on the map.
+    Labels,
+    /// A label on the map and a leader.
+    Leader,
+}
+
+impl Desk {
+    /// A fresh desk: no sheet, last number 0.
+    pub fn new() -> Desk {
+        Desk::of(ffi::desk_new())
+    }
+
+    /// Loads a sheet. The last number stays. If the sheet is loaded the whole
+    /// workspace is zero; on a refusal it is as it was.
+    #[must_use = "the desk that is handed back goes on"]
+    pub fn load(self, sheet: &[u8], workspace: &mut [u16]) -> (Desk, Result<(), Refusal>) {
+        let loaded = ffi::desk_load(self.state, sheet, workspace);
+        (Desk::of(loaded.desk), answer(loaded.number))
+    }
+
+    /// Marks a list: a count byte, then that many positions.
+    #[must_use = "the desk that is handed back goes on"]
+    pub fn mark(self, list: &[u8]) -> (Desk, Result<Marked, Refusal>) {
+        let marked = ffi::desk_mark(self.state, list);
+        let answer = marked_list(&marked);
+        (Desk::of(marked.desk), answer)
+    }
+
+    /// The bytes of the loaded sheet.
+    pub fn sheet(&self) -> Option<&[u8]> {
+        if self.state.loaded == 0 {
+            return None;
+        }
+        let sheet = self.state.sheet.get(..sheet_length(&self.state.sheet));
+        Some(sheet.expect("the library's promise: a loaded sheet has at most 32 points"))
+    }
+
+    /// The best count of the loaded sheet.
+    pub fn best(&self) -> Option<u16> {
+        (self.state.loaded == 1).then_some(self.state.best)
+    }
+
+    /// The number of the list marked last, 0 before the first.
+    pub fn last_number(&self) -> u16 {
+        self.state.last
+    }
+
+    /// A second desk that goes on from here on its own. The next list of each
+    /// gets the same number: what the desk promises holds for each of the two,
+    /// not for both together.
+    #[must_use]
+    pub fn fork(&self) -> Desk {
+        let state = self.state.clone();
+        Desk { state }
+    }
+
+    fn of(state: ffi::DeskState) -> Desk {
+        promised(state.loaded <= 1, "loaded is a bool");
+        promised(state.spare == 0, "a desk's spare byte is 0");
+        Desk { state }
+    }
+}
+
+impl Default for Desk {
+    fn default() -> Desk {
+        Desk::new()
+    }
+}
+
+/// How many bytes a sheet with this start has.
+pub(crate) fn sheet_length(sheet: &[u8; 202]) -> usize {
+    10 + 6 * usize::from(sheet[9])
+}
+
+/// What the fields of a mark's result say.
+fn marked_list(result: &ffi::DeskMarkResult) -> Result<Marked, Refusal> {
+    let (list_number, verdict) = (result.list_number, result.verdict);
+    let counts = (result.count, result.shortfall);
+    let pair = (result.first, result.second);
+    if let Err(refusal) = answer(result.number) {
+        let empty = (list_number, verdict, counts, pair) == (0, 0, (0, 0), (0, 0));
+        promised(empty, "a refused mark has no list number and no verdict");
+        return Err(refusal);
+    }
+    let verdict = match verdict {
+        1 => {
+            promised(pair == (0, 0), "a valid list has no clash");
+            valid(counts)
+        }
+        2 | 3 => {
+            promised(counts == (0, 0), "a clash has no counts");
+            clash(pair, verdict == 2)
+        }
+        other => panic!("the library's promise: a verdict is 1, 2 or 3, not {other}"),
+    };
+    let number = short(list_number);
+    promised((1..=9999).contains(&number), "a number is 1 to 9999");
+    Ok(Marked { number, verdict })
+}
+
+fn valid((count, shortfall): (u32, u32)) -> Verdict {
+    Verdict::Valid {
+        count: short(count),
+        shortfall: short(shortfall),
+    }
+}
+
+fn clash((first, second): (u32, u32), labels: bool) -> Verdict {
+    let position = |number| u8::try_from(number).expect("the library's promise: a position");
+    Verdict::Clash {
+        first: position(first),
+        second: position(second),
+        kind: match labels {
+            true => ClashKind::Labels,
+            false => ClashKind::Leader,
+        },
+    }
+}
+
+fn short(number: u32) -> u16 {
+    u16::try_from(number).expect("the library's promise: a number below 65536")
+}
+
+#[cfg(test)]
+mod tests {
+    use super::{marked_list, Desk};
+    use crate::ffi::{desk_new, DeskMarkResult, DeskState};
+    use std::panic::catch_unwind;
+
+    #[test]
+    fn a_broken_desk_panics() {
+        let ends = |loaded, spare| {
+            let state = DeskState {
+                loaded,
+                spare,
+                ..desk_new()
+            };
+            catch_unwind(|| Desk::of(state)).is_ok()
+        };
+        assert!(ends(0, 0) && ends(1, 0));
+        assert!(!ends(2, 0) && !ends(0, 1) && !ends(1, 255));
+    }
+
+    /// A list with number 9 and count 4, with one thing changed.
+    fn ends(change: impl FnOnce(&mut DeskMarkResult)) -> bool {
+        let mut result = DeskMarkResult {
+            desk: desk_new(),
+            number: 0,
+            list_number: 9,
+            verdict: 1,
+            count: 4,
+            shortfall: 0,
+            first: 0,
+            second: 0,
+        };
+        change(&mut result);
+        catch_unwind(|| marked_list(&result).is_ok()).is_ok()
+    }
+
+    #[test]
+    fn a_broken_mark_panics() {
+        assert!(ends(|_| ()) && ends(|result| result.count = 65535));
+        assert!(ends(|result| (result.verdict, result.count) = (3, 0)));
+        assert!(!ends(|result| result.number = 31), "refused and marked");
+        assert!(!ends(|result| result.number = 50), "no question's number");
+        assert!(!ends(|result| result.list_number = 0), "no list number");
+        assert!(
+            !ends(|result| result.list_number = 10_000),
+            "no number left"
+        );
+        assert!(!ends(|result| result.list_number = 65_545), "not 16 bits");
+        assert!(!ends(|result| result.verdict = 0), "no verdict");
+        assert!(!ends(|result| result.verdict = 4), "no such verdict");
+        assert!(!ends(|result| result.verdict = 2), "a clash with a count");
+        assert!(!ends(|result| result.second = 1), "valid with a clash");
+        assert!(!ends(|result| result.shortfall = 65_536), "not 16 bits");
+    }
+}

@@ -1,0 +1,72 @@
+//! What a desk shows, and that it isn't copied by the way.
+
+use crate::{full_sheet, load, mark, number, P1, P10, P3};
+use plates::{ClashKind, Desk, Marked, Verdict};
+
+fn shows(desk: &Desk, sheet: Option<&[u8]>, best: Option<u16>, last: u16) {
+    assert_eq!(desk.sheet(), sheet);
+    assert_eq!(desk.best(), best);
+    assert_eq!(desk.last_number(), last);
+}
+
+#[test]
+fn accessors() {
+    let desk = Desk::new();
+    shows(&desk, None, None, 0);
+    let desk = load(desk, &P1);
+    shows(&desk, Some(&P1), Some(2), 0);
+    let desk = mark(mark(mark(desk, &[2, 1, 2]), &[1, 0]), &[0]);
+    shows(&desk, Some(&P1), Some(2), 3);
+    let (desk, loaded) = desk.load(&P3[..21], &mut []);
+    assert_eq!(number(loaded), 16);
+    shows(&desk, Some(&P1), Some(2), 3);
+    let desk = load(desk, &P10);
+    shows(&desk, Some(&P10), Some(0), 3);
+    let full = full_sheet();
+    shows(&load(desk, &full), Some(&full), Some(32), 3);
+}
+
+/// Document 01's lists on P1.
+#[test]
+fn verdicts() {
+    let (desk, marked) = load(Desk::new(), &P1).mark(&[2, 1, 2]);
+    let (count, shortfall): (u16, u16) = (2, 0);
+    let verdict = Verdict::Valid { count, shortfall };
+    assert_eq!(marked, Ok(Marked { number: 1, verdict }));
+    let (desk, marked) = desk.mark(&[1, 0]);
+    let verdict = Verdict::Clash {
+        first: 0,
+        second: 1,
+        kind: ClashKind::Leader,
+    };
+    assert_eq!(marked, Ok(Marked { number: 2, verdict }));
+    let (_, marked) = desk.mark(&[0]);
+    let (count, shortfall): (u16, u16) = (0, 2);
+    let verdict = Verdict::Valid { count, shortfall };
+    assert_eq!(marked, Ok(Marked { number: 3, verdict }));
+}
+
+#[test]
+fn forks_go_on_alone() {
+    let desk = mark(load(Desk::new(), &P1), &[0]);
+    let fork = desk.fork();
+    assert_eq!(fork, desk);
+    let fork = load(mark(fork, &[0]), &P3);
+    shows(&fork, Some(&P3), Some(2), 2);
+    shows(&desk, Some(&P1), Some(2), 1);
+    let (_, marked) = desk.mark(&[1, 2]);
+    assert_eq!(marked.map(|marked| marked.number), Ok(2));
+}
+
+/// If `Desk` were `Clone`, both implementations would fit and this wouldn't build.
+#[test]
+fn a_desk_is_not_clone() {
+    trait FitsOnce<T> {
+        fn fits() {}
+    }
+    struct Always;
+    struct IfClone;
+    impl<T> FitsOnce<Always> for T {}
+    impl<T: Clone> FitsOnce<IfClone> for T {}
+    <Desk as FitsOnce<_>>::fits();
+}

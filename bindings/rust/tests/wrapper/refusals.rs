@@ -1,0 +1,80 @@
+//! Every number of a refusal, from a call that is refused with it, and what it
+//! says.
+
+use crate::{load, mark, P1, P3};
+use plates::{check_sheet, make, read_plate, Desk, Refusal, WORKSPACE};
+use std::error::Error;
+
+/// P3 with other bytes at one place.
+fn changed(place: usize, bytes: &[u8]) -> Vec<u8> {
+    let mut sheet = P3.to_vec();
+    sheet[place..place + bytes.len()].copy_from_slice(bytes);
+    sheet
+}
+
+fn refused<T: std::fmt::Debug>(answer: Result<T, Refusal>, number: u8, words: &str) {
+    let refusal = answer.expect_err(words);
+    assert_eq!(refusal.number(), number);
+    assert_eq!(refusal.to_string(), format!("{words} no ({number})"));
+    assert_eq!(refusal.question(), words);
+    let error: Box<dyn Error> = Box::new(refusal);
+    assert!(error.source().is_none());
+}
+
+#[test]
+fn sheets() {
+    let no = |sheet: &[u8], number, words| refused(check_sheet(sheet), number, words);
+    no(&P3[..9], 11, "are there at least 10 bytes?");
+    no(&changed(0, &[2]), 12, "is the first byte 1?");
+    no(&changed(3, &[0, 0]), 13, "are both map sides allowed?");
+    no(&changed(5, &[1, 1]), 14, "are both label sides allowed?");
+    no(&changed(9, &[33]), 15, "is n at most 32?");
+    let words = "is the length 10 + 6n (in a plate: at least that)?";
+    no(&P3[..21], 16, words);
+    no(&changed(10, &[0]), 17, "is the call number allowed?");
+    no(&changed(12, &[20]), 18, "are column and row on the map?");
+    let words = "is the call number unlike every earlier one?";
+    no(&changed(16, &[1]), 19, words);
+    let words = "is the row unlike every earlier one?";
+    no(&changed(20, &[3]), 20, words);
+}
+
+#[test]
+fn makings() {
+    let (mut output, mut workspace) = ([0; 28], vec![0; WORKSPACE]);
+    let words = "has the output at least 12 + 8n bytes?";
+    refused(make(&P3, &mut output[1..], &mut workspace), 21, words);
+    let words = "is the workspace at least 32,768 numbers of 16 bits?";
+    refused(make(&P3, &mut output, &mut workspace[1..]), 22, words);
+}
+
+#[test]
+fn plates() {
+    let no = |sheet: &[u8], added: &[u8], number, words| {
+        refused(read_plate(&[sheet, added].concat()), number, words);
+    };
+    let words = "do the two sections have all their bytes, end where the plate ends, \
+                 and hold n points together?";
+    no(&P3, &[2, 0, 1], 41, words);
+    let words = "is each inside position below n and above the one before it?";
+    no(&P3, &[2, 1, 0, 0], 42, words);
+    let words = "are the outside pairs just the other points, in order, \
+                 with the margin rule's columns?";
+    no(&P3, &[1, 0, 1, 1, 1], 43, words);
+    // P1's first two points inside: their labels meet
+    no(&P1, &[2, 0, 1, 1, 2, 0], 44, "is the choice valid?");
+}
+
+#[test]
+fn marks() {
+    let no = |desk: Desk, list: &[u8], number, words| refused(desk.mark(list).1, number, words);
+    let desk = load(Desk::new(), &P3);
+    let words = "is there a count byte, and does the length equal 1 plus it?";
+    no(desk.fork(), &[1], 31, words);
+    no(desk.fork(), &[1, 2], 32, "is the entry below n?");
+    let words = "is the entry above the one before?";
+    no(desk.fork(), &[2, 1, 1], 33, words);
+    no(Desk::new(), &[0], 51, "is a sheet loaded?");
+    let full = (0..9999).fold(desk, |desk, _| mark(desk, &[0]));
+    no(full, &[0], 52, "is the last number below 9,999?");
+}
