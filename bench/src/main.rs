@@ -157,7 +157,7 @@ impl Given {
         let list = self.list();
         proved::check_sheet(&self.sheet)
             && proved::read_plate(&self.plate) == Some(&list[1..])
-            && proved::mark(self.desk.clone(), list).1 == Some((list[0], 0))
+            && proved::mark(self.desk.fork(), list).1 == Some((list[0].into(), 0))
     }
 }
 
@@ -171,7 +171,7 @@ fn call_times(given: &[Given]) -> [f64; 5] {
             0 => _ = black_box(plate::check_sheet(&given.sheet)),
             1 => _ = black_box(proved::check_sheet(&given.sheet)),
             2 => _ = black_box(proved::read_plate(&given.plate)),
-            3 => _ = black_box(proved::mark(given.desk.clone(), given.list())),
+            3 => _ = black_box(proved::mark(given.desk.fork(), given.list())),
             _ => _ = black_box(proved::load(&given.sheet, &mut workspace)),
         }
     })

@@ -6,7 +6,7 @@ pub use plates::Desk;
 
 /// Makes a best plate; its length, or the number of the refusal.
 pub fn make(sheet: &[u8], output: &mut [u8], workspace: &mut [u16]) -> Result<usize, u8> {
-    plates::make(sheet, output, workspace)
+    plates::make(sheet, output, workspace).map_err(|refusal| refusal.number())
 }
 
 /// Whether a sheet is accepted.
@@ -26,7 +26,7 @@ pub fn load(sheet: &[u8], workspace: &mut [u16]) -> (Desk, bool) {
 }
 
 /// The desk after a mark, and the count and the shortfall of a valid list.
-pub fn mark(desk: Desk, list: &[u8]) -> (Desk, Option<(u8, u8)>) {
+pub fn mark(desk: Desk, list: &[u8]) -> (Desk, Option<(u16, u16)>) {
     let (desk, answer) = desk.mark(list);
     let valid = match answer.map(|marked| marked.verdict) {
         Ok(Verdict::Valid { count, shortfall }) => Some((count, shortfall)),
