@@ -36,7 +36,6 @@ fn end_line() {
 fn print_refusal(number: u8) {
     print_word(b"refused");
     print_number(number as u64);
-    end_line();
 }
 
 // SHEETS AND PLATES
@@ -66,6 +65,7 @@ fn run_sheet(sheet: &[u8]) {
         MakeAnswer::Refused(number) => {
             print_word(b"sheet ");
             print_refusal(number);
+            end_line();
         }
     }
 }
@@ -78,16 +78,19 @@ fn print_positions(list: &[u8]) {
     }
 }
 
-fn run_plate(plate: &[u8]) {
-    print_word(b"plate ");
-    match plate_reader::read_plate(plate) {
-        PlateAnswer::Accepted(_) => {
-            print_word(b"accepted");
-            print_positions(plate_reader::inside_list(plate));
-            end_line();
-        }
+fn print_plate_answer(answer: PlateAnswer) {
+    match answer {
+        PlateAnswer::Accepted(_) => print_word(b"accepted"),
         PlateAnswer::Refused(number) => print_refusal(number),
     }
+}
+
+// A plate, read: the answer, and the positions that are handed back. Of a refused plate that is its empty start, so none.
+fn run_plate(plate: &[u8]) {
+    print_word(b"plate ");
+    print_plate_answer(plate_reader::read_plate(plate));
+    print_positions(plate_reader::inside_list(plate));
+    end_line();
 }
 
 // ITEMS

@@ -39,6 +39,9 @@ print-word-requires c κs = search needs
 print-refusal-requires : tie.Need-print-refusal-requires
 print-refusal-requires c κs = search needs
 
+end-line-requires : tie.Need-end-line-requires
+end-line-requires c κs = search needs
+
 returns : tie.Need-returns
 returns c = search needs
 
@@ -60,5 +63,6 @@ run-sheet-spec =
     slice-aggregate-print-word
     print-word-requires
     print-refusal-requires
+    end-line-requires
     returns
     returns-2)
