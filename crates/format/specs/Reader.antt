@@ -7,7 +7,6 @@ use denote.Ref.{RefT, now}
 use Rattle.format.specs.Sheet.{pointCount, callNumber, column, row}
 use Rattle.format.specs.declared.reader.SheetPoint.{SheetPoint}
 use Rattle.format.specs.declared.reader.SheetReader.{SheetReader}
-use Rattle.format.specs.declared.reader.SheetStep.{SheetStep}
 
 -- "per point its call number, column and row": the point at position i.
 abbrev pub pointAt : List ℕ → ℕ → SheetPoint
@@ -28,7 +27,3 @@ readerAt s i = record { sheet = s; next = i }
 -- The same bytes, and the place after.
 abbrev pub movedOn : SheetReader → SheetReader
 movedOn r = readerAt (r .sheet) (placeAfter (now (r .sheet)) (r .next))
-
--- "A sheet is walked by a reader": what it meets at position i.
-abbrev pub stepAt : List ℕ → ℕ → SheetStep
-stepAt s i = record { left = leftAt s i; point = pointAt s i; after = placeAfter s i }

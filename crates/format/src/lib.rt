@@ -9,7 +9,10 @@ ghost use Rattle.labeling.specs.Points.{nextMargin};
 ghost use Rattle.format.specs.Answers.{sheetOutcome, outcomeOf};
 ghost use Rattle.format.specs.Reader.{pointAt};
 use reader::SheetPoint;
-use reader::walked;
+use reader::left;
+use reader::moved;
+use reader::next_point;
+use reader::reader_at;
 
 pub mod reader;
 
@@ -186,18 +189,15 @@ fn point_no(sheet: &[u8], position: u8, point: SheetPoint) -> u8
 fn points_no(sheet: &[u8]) -> u8
     ensures { λ r. ⌜ r ≡ pointsNo (now (sheet .entry)) (pointCount (now (sheet .entry))) ⌝ }
 {
-    let mut position: u8 = 0;
-    loop {
-        let step = walked(sheet, position);
-        if step.left == 0 {
-            return 0;
-        }
-        let no = point_no(sheet, position, step.point);
+    let mut reader = reader_at(sheet, 0);
+    while left(reader) > 0 {
+        let no = point_no(sheet, reader.next, next_point(reader));
         if no != 0 {
             return no;
         }
-        position = step.after;
+        reader = moved(reader);
     }
+    0
 }
 
 // The first no of 11 to 20, 0 for none, where `fits` answers 16.

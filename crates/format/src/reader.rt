@@ -1,8 +1,8 @@
 // "A sheet is walked by a reader that keeps the sheet's bytes and the next place."
-// The work is done by functions on the sheet and a position. The functions over the reader take it apart and call those. `walked` stands
-// above them, with plain parameters: who walks a sheet calls it.
+// The work is done by functions on the sheet and a position. The functions over the reader take it apart and call those. Who walks a sheet
+// keeps a reader, and lays what `moved` returns in its place.
 ghost use mathlib.Core.Path.{_≡_};
-ghost use Rattle.format.specs.Reader.{pointAt, leftAt, placeAfter, readerAt, movedOn, stepAt};
+ghost use Rattle.format.specs.Reader.{pointAt, leftAt, placeAfter, readerAt, movedOn};
 use crate::call_number;
 use crate::column;
 use crate::point_count;
@@ -19,13 +19,6 @@ pub struct SheetPoint {
 pub struct SheetReader<'a> {
     pub sheet: &'a [u8],
     pub next: u8,
-}
-
-// What a walk meets at a position: how many points are left, the point there, and the position after it.
-pub struct SheetStep {
-    pub left: u8,
-    pub point: SheetPoint,
-    pub after: u8,
 }
 
 // ON THE SHEET AND A POSITION
@@ -95,19 +88,5 @@ pub fn moved<'a>(reader: SheetReader<'a>) -> SheetReader<'a>
     SheetReader {
         sheet: reader.sheet,
         next: place_after(reader.sheet, reader.next),
-    }
-}
-
-// WITH PLAIN PARAMETERS
-
-// What a reader at a position meets.
-pub fn walked(sheet: &[u8], position: u8) -> SheetStep
-    ensures { λ r. ⌜ r ≡ stepAt (now (sheet .entry)) position ⌝ }
-{
-    let reader = reader_at(sheet, position);
-    SheetStep {
-        left: left(reader),
-        point: next_point(reader),
-        after: moved(reader).next,
     }
 }
