@@ -3,6 +3,7 @@ use borrow.Author.Needs.{needs}
 use lib.Dec.{eqb}
 use lib.ListN.{length}
 use mathlib.Core.Path.{_≡_, sym, ap, _∙_}
+use native.Mathlib.Omega.{arith}
 use Rattle.format.specs.Sheet.{questionsNo, sheetNo}
 use Rattle.format.proofs.Laws.{none-outcome, no-outcome}
 use Rattle.format.proofs.check_sheet.Statement.{statement}
@@ -22,10 +23,16 @@ first-no c =
     c .questions-no .ensures ∙ ap (λ l. questionsNo s (eqb (length s) l)) (c .before .sheet-length .ensures .0)
 
 returns : tie.Need-returns
-returns c = none-outcome _ (sym (first-no (c .before)) ∙ c .if1 .taken)
+returns c =
+    let t = c .if1 .taken in
+    let zero : c .before .questions-no .result ≡ 0 = omega (arith, t) in
+    none-outcome _ (sym (first-no (c .before)) ∙ zero)
 
 returns-2 : tie.Need-returns-2
-returns-2 c = no-outcome _ _ (first-no (c .before)) (c .if1 .left)
+returns-2 c =
+    let t = c .if1 .left in
+    let some : c .before .questions-no .result ≡ 0 → ⊥ = λ z. omega (arith, t, z) in
+    no-outcome _ _ (first-no (c .before)) some
 
 pub check-sheet-spec : {M : Type 1} → statement M
 check-sheet-spec =
