@@ -8,7 +8,7 @@ use lib.Dec.{ltb}
 use borrow.Author.Tests.{lt-ltb, le-ltb}
 use native.Mathlib.Omega.{arith}
 use Rattle.labeling.specs.Tests.{decide, same, not-both, Decides, dec-lt, dec-and, dec-not}
-use Rattle.labeling.specs.Recurrence.{Heights, Point, Sorted, Overlap, between, greatest, everyPoint, reachesOver, reachesAbove, reach, good, clear, join, value, outValue, inValue}
+use Rattle.labeling.specs.Recurrence.{Heights, Point, Sorted, Overlap, between, everyPoint, reachesOver, reachesAbove, reach, good, clear, join, value, outValue, inValue}
 use Rattle.labeling.specs.RecurrenceTests.{less, dec-false, dec-map, dec-every, Between, dec-between, Reaches, dec-reaches, Reached, newer, older, nobody, reach-is, Good, dec-good, dec-clear, value-zero, value-skip, value-step, greatest-same}
 use Rattle.labeling.specs.Joins.{plus-rises, plus-more, join-none, join-last, join-rises, join-max-low, join-max-high, join-plus-low, join-plus-high, join-assoc}
 use Rattle.labeling.specs.States.{rank-is, right-of, overlap-reaches, reaches-overlaps}

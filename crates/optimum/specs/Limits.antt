@@ -9,8 +9,8 @@ use lib.ListN.{length, getD, set, length-set}
 use lib.Seq.{getD-set-same, getD-set-other}
 use borrow.Author.Tests.{leb-true, leb-false}
 use Rattle.labeling.specs.Tests.{same, not-both, Decides, dec-and, dec-le, dec-lt}
-use Rattle.labeling.specs.Recurrence.{Heights, Point, Sorted, Overlap, reachesOver, greatest}
-use Rattle.labeling.specs.RecurrenceTests.{less, dec-unique, dec-map, Reaches, dec-reaches}
+use Rattle.labeling.specs.Recurrence.{Heights, Point, Sorted, reachesOver, greatest}
+use Rattle.labeling.specs.RecurrenceTests.{less, dec-unique, dec-map, dec-reaches}
 use Rattle.labeling.specs.Comparisons.{least, Passes, greatest-unique, least-unique, overlapsAbove, highOf, topOf, dec-high}
 use Rattle.orders.specs.Arrays.{weightAt, heightsOf, positionAt}
 use Rattle.optimum.specs.SameHeights.{SameHeights, sorted-same, high-same, top-same}

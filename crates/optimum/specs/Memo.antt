@@ -1,7 +1,7 @@
 -- How the table is read, and how it grows. Assumes nothing.
 use mathlib.Core.Path.{_≡_, refl, sym, _∙_, ap}
 use mathlib.Core.List.{List}
-use Prim.Native.Nat.{ℕ, suc, _+_, _-_, _≤_, _<_}
+use Prim.Native.Nat.{ℕ, _+_, _-_, _≤_, _<_}
 use lib.ListN.{length, set, length-set}
 use lib.Seq.{getD-set-same, getD-set-other}
 use native.Mathlib.Omega.{arith}
@@ -10,9 +10,9 @@ use Rattle.labeling.specs.Recurrence.{Heights}
 use Rattle.labeling.specs.RecurrenceTests.{less}
 use Rattle.orders.specs.Arrays.{heightsOf}
 use Rattle.orders.specs.Sums.{tet}
-use Rattle.optimum.specs.Places.{placeOf, place-same, place-rows}
+use Rattle.optimum.specs.Places.{place-same, place-rows}
 use Rattle.optimum.specs.Words.{valueAt, noteAt, withEntry, length-entry, entry-note, entry-note-other, entry-value, entry-value-other}
-use Rattle.optimum.specs.Slabs.{slabValue, slabPlace, Proper}
+use Rattle.optimum.specs.Slabs.{slabPlace, Proper}
 use Rattle.optimum.specs.Table.{CutAt, Settled, Room, Memo, entryAt, Ready, Asked, Kept, Unnoted, Clearing, Valued, Recoverable}
 use Rattle.optimum.specs.Steps.{fitting-le, place-room}
 use Rattle.optimum.specs.declared.table.State.{State}

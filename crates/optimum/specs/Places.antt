@@ -1,6 +1,6 @@
 -- The places of the table: an entry (a, b, q) with q ≤ a < b, by triangular and tetrahedral numbers.
 -- Assumes nothing.
-use mathlib.Core.Path.{_≡_, ap}
+use mathlib.Core.Path.{_≡_, refl, ap}
 use Prim.Native.Nat.{ℕ, suc, _+_, _≤_, _<_}
 use native.Mathlib.Omega.{arith}
 use native.Mathlib.Decide.{le-ind}
@@ -35,12 +35,12 @@ in-row a b b′ q h k l = omega (arith, tet-mono (suc (suc b)) (suc b′) (omega
 pub place-rows : (a b q n : ℕ) → q ≤ a → a < b → b ≤ suc n → placeOf a b q < tet (n + 3)
 place-rows a b q n h k l = let e : suc (n + 2) ≡ n + 3 = omega arith in rw e at (in-row a b (n + 2) q h k (omega arith))
 
-pub rows-below : (n : ℕ) → n ≤ 32 → tet (n + 3) ≤ 6545
+pub tet-below : (k r : ℕ) → r ≡ tet k → k ≤ 35 → r ≤ 6545
 unfolding tet tri
-rows-below n l = omega (arith, tet-mono (n + 3) 35 (omega arith))
+tet-below k r e l = omega (arith, tet-mono k 35 l)
 
 pub place-below : (a b q : ℕ) → q ≤ a → a < b → b ≤ 33 → placeOf a b q < 6545
-place-below a b q h k l = omega (arith, place-rows a b q 32 h k (omega arith), rows-below 32 (omega arith))
+place-below a b q h k l = omega (arith, place-rows a b q 32 h k (omega arith), tet-below 35 (tet 35) refl (omega arith))
 
 -- Two entries at one place are one entry.
 pub place-same : (a b q a′ b′ q′ : ℕ) → q ≤ a → a < b → q′ ≤ a′ → a′ < b′ → placeOf a b q ≡ placeOf a′ b′ q′ → (a ≡ a′) × (b ≡ b′) × (q ≡ q′)

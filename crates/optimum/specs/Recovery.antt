@@ -3,7 +3,6 @@ use mathlib.Core.Path.{_≡_, refl, sym, _∙_, ap}
 use mathlib.Core.Bool.{Bool, true, false, cond, _&&_, _||_}
 use mathlib.Core.List.{List}
 use Prim.Native.Nat.{ℕ, zero, suc, _+_, _-_, _≤_, _<_}
-use native.Mathlib.Numerals.{add-one}
 use native.Mathlib.Omega.{arith}
 use lib.Dec.{ltb, leb, eqb}
 use lib.ListN.{getD, length, set, length-set}
@@ -15,8 +14,8 @@ use Rattle.labeling.specs.RecurrenceTests.{Between, dec-between, dec-false, dec
 use Rattle.labeling.specs.Recovered.{takes-out, value-down, recovered-down}
 use Rattle.orders.specs.Arrays.{heightsOf}
 use Rattle.optimum.specs.Packed.{Packed}
-use Rattle.optimum.specs.Slabs.{limit, slabHas, slabBelow, slabValue, slabTakes, slabRecovered}
-use Rattle.optimum.specs.Table.{Memo, Ready, Asked, Opened, CutAt, Recoverable, insideMark, taken, markedTaken, Taking, Marked, MarkedDown, Blank, Solved}
+use Rattle.optimum.specs.Slabs.{limit, slabHas, slabValue, slabTakes, slabRecovered}
+use Rattle.optimum.specs.Table.{Memo, Ready, Opened, CutAt, Recoverable, insideMark, taken, markedTaken, Taking, Marked, MarkedDown, Blank, Solved}
 use Rattle.optimum.specs.Steps.{opened, ready-low, ready-high, limit-low, limit-high, limit-n, fitting-zero}
 use Rattle.optimum.specs.declared.table.State.{State}
 

@@ -7,7 +7,7 @@ use native.Mathlib.Numerals.{add-one}
 use native.Mathlib.Omega.{arith}
 use borrow.Author.Tests.{not-true, not-false, lt-ltb, le-ltb}
 use Rattle.labeling.specs.Tests.{not-both, same, and-left, and-right}
-use Rattle.labeling.specs.Recurrence.{Heights, between, value, plus, join, outValue, inValue, takesIn}
+use Rattle.labeling.specs.Recurrence.{Heights, between, value, plus, join, inValue, takesIn}
 use Rattle.labeling.specs.RecurrenceTests.{less, dec-false, Between, dec-between, value-zero, value-skip, value-step}
 use Rattle.labeling.specs.Joins.{plus-most, join-none, join-first, join-last, join-less, join-rises, join-max-high, join-plus}
 use Rattle.labeling.specs.Recovered.{TakesDown}
@@ -15,7 +15,7 @@ use Rattle.labeling.specs.Safe.{Safe, unreached, dec-unreached, safe-outside, s
 use Rattle.orders.specs.Arrays.{heightsOf}
 use Rattle.optimum.specs.Slabs.{limit, slabHas, slabBelow, slabValue, slabGood, slabOut, slabIn}
 use Rattle.optimum.specs.Table.{CutAt, Settled, betterOf, Kept, Opened, Running, Stepped}
-use Rattle.optimum.specs.Steps.{reaches-fitting, at-rank, open-between, open-below, open-weight}
+use Rattle.optimum.specs.Steps.{reaches-fitting, at-rank, open-between, open-weight}
 use Rattle.optimum.specs.declared.table.State.{State}
 use Rattle.optimum.specs.declared.table.Found.{Found}
 use Rattle.optimum.specs.declared.values.Run.{Run}

@@ -1,6 +1,6 @@
 -- What holds of a slab, and of an open point of it. Assumes nothing.
 use mathlib.Core.Path.{_≡_, refl, sym, _∙_, ap}
-use mathlib.Core.Bool.{Bool, true, false}
+use mathlib.Core.Bool.{true, false}
 use mathlib.Core.List.{List}
 use Prim.Native.Nat.{ℕ, zero, suc, _+_, _-_, _%_, _≤_, _<_}
 use native.Mathlib.Numerals.{add-one}
@@ -8,7 +8,7 @@ use native.Mathlib.Omega.{arith}
 use lib.Dec.{eqb, ltb}
 use borrow.Author.Tests.{ltb-true, ltb-false}
 use Rattle.labeling.specs.Tests.{decide, same, or-right, dec-eq}
-use Rattle.labeling.specs.Recurrence.{Heights, Point, between, reach, reachesOver, value, join, outValue, clear, total}
+use Rattle.labeling.specs.Recurrence.{Heights, Point, between, reach, value, join, outValue, clear, total}
 use Rattle.labeling.specs.RecurrenceTests.{less, dec-false, Between, dec-between, Reaches, dec-reaches, Reached, reach-is, newer, older, nobody}
 use Rattle.labeling.specs.Joins.{join-none}
 use Rattle.labeling.specs.Totals.{all, value-bound}
@@ -17,7 +17,7 @@ use Rattle.orders.specs.Sums.{tri, tet}
 use Rattle.optimum.specs.Packed.{Packed}
 use Rattle.optimum.specs.Places.{placeOf, place-below}
 use Rattle.optimum.specs.Conflicts.{Candidate}
-use Rattle.optimum.specs.Slabs.{limit, slabHas, slabBelow, slabValue, slabOut, slabPlace, fitting, Proper}
+use Rattle.optimum.specs.Slabs.{limit, slabHas, slabBelow, slabValue, slabOut, slabPlace, fitting}
 use Rattle.optimum.specs.Table.{Ready, Opened}
 use Rattle.optimum.specs.declared.table.State.{State}
 

@@ -1,7 +1,6 @@
 -- `optimum::values::value_of` and the three functions that it computes a value by meet their contracts: what lies between a slab's ends
 -- falls, and what is noted stays right. Assumes nothing.
 use mathlib.Core.Path.{_≡_, refl, sym, _∙_}
-use mathlib.Core.Bool.{false}
 use Prim.Native.Nat.{ℕ, _+_, _-_, _*_, _<_}
 use native.Mathlib.Omega.{arith}
 use denote.Ref.{now}
@@ -9,7 +8,7 @@ use borrow.Author.Needs.{needs}
 use borrow.Author.Tests.{not-true, not-false}
 use Rattle.orders.specs.Arrays.{heightsOf}
 use Rattle.optimum.specs.Table.{Running, Kept, Asked, Valued, Opened}
-use Rattle.optimum.specs.Steps.{ends-small, limit-n, limit-few, opened, open-small, open-candidate, open-weight, ready-low, ready-high, low-value, high-value, low-small, high-small, out-cut, out-none}
+use Rattle.optimum.specs.Steps.{ends-small, limit-few, opened, open-small, open-candidate, open-weight, ready-low, ready-high, low-value, high-value, low-small, high-small, out-cut, out-none}
 use Rattle.optimum.specs.Running.{step-skip, step-safe, step-stop, step-on, settled-none, running-first, running-prev, running-last}
 use Rattle.optimum.specs.Memo.{memo-value, memo-stored, valued-after, kept-refl, kept-trans}
 use borrow.Fn.Kinds.{In}
