@@ -1,6 +1,6 @@
 -- Facts about the questions and the bytes, for the proofs of this crate. Assumes nothing.
 use mathlib.Core.Path.{_≡_, refl, sym, ap, ap₂, _∙_}
-use mathlib.Core.Bool.{true, false, not, true≢false}
+use mathlib.Core.Bool.{true}
 use mathlib.Core.List.{List, [], _∷_, _++_}
 use Prim.Native.Nat.{ℕ, zero, suc, _+_, _-_, _*_, _≤_, _<_}
 use lib.Dec.{ltb, eqb}
@@ -14,6 +14,7 @@ use Rattle.labeling.specs.Tests.{decide, same}
 use Rattle.labeling.specs.Best.{bestCount}
 use Rattle.format.specs.Sheet.{pointCount, pointsOf, sheetNo}
 use Rattle.format.specs.Accepted.{accepted}
+use Rattle.format.specs.Answers.{outcomeOf}
 use Rattle.format.specs.Plate.{choiceOf}
 use Rattle.clash.specs.declared.ClashKind.{ClashKind}
 use Rattle.clash.specs.declared.Clash.{Clash}
@@ -25,12 +26,12 @@ use Rattle.plate_maker.specs.Making.{makeOutcome, BestOutput, Making}
 use Rattle.plate_maker.specs.declared.MakeAnswer.{MakeAnswer}
 use Rattle.plate_maker.specs.declared.MakeAnswer.the-variants.{Made, Refused as RefusedMaking}
 use Rattle.desk.specs.Questions.{loadNo, listCount, aboveBefore, entryNo, entriesNo}
-use Rattle.desk.specs.Desk.{noSheet, withSheet, refusedLoad, loadOf, loadOutcome, verdictBy, verdictOf}
+use Rattle.desk.specs.Desk.{noSheet, loadOutcome, withSheet, loadedDesk, Loading, verdictBy, verdictAt}
 use Rattle.desk.specs.Blank.{blankPlate}
-use Rattle.desk.specs.DeskLaws.{load-yes, load-no, none-load}
+use Rattle.desk.specs.DeskLaws.{none-load}
 use Rattle.desk.specs.Loaded.{plate-count}
 use Rattle.desk.specs.declared.Desk.{Desk}
-use Rattle.desk.specs.declared.LoadAnswer.the-variants.{Accepted}
+use Rattle.desk.specs.declared.LoadAnswer.the-variants.{Accepted, Refused}
 use Rattle.desk.specs.declared.LoadResult.{LoadResult}
 use Rattle.desk.specs.declared.Verdict.the-variants.{Valid, Clash as ClashVerdict}
 
@@ -87,16 +88,16 @@ no-sheet-length = refl
 
 -- THE VERDICT, by the first clash x
 
-module _ (d : Desk) (l : List ℕ) (x : Clash) (first : x ≡ firstClash (pointsOf (d .sheet)) (choiceOf (take (length l - 1) (drop 1 l)))) where
-  by-clash : verdictOf d l ≡ verdictBy x (listCount l) (d .best)
-  unfolding verdictOf
-  by-clash = ap (λ y. verdictBy y (listCount l) (d .best)) (sym (first ∙ ap (λ p. firstClash (pointsOf (d .sheet)) (choiceOf p)) (all-after l)))
+module _ (s : List ℕ) (best : ℕ) (l : List ℕ) (x : Clash) (first : x ≡ firstClash (pointsOf s) (choiceOf (take (length l - 1) (drop 1 l)))) where
+  by-clash : verdictAt s best l ≡ verdictBy x (listCount l) best
+  unfolding verdictAt
+  by-clash = ap (λ y. verdictBy y (listCount l) best) (sym (first ∙ ap (λ p. firstClash (pointsOf s) (choiceOf p)) (all-after l)))
 
-  pub verdict-clash : {i j : ℕ} {k : ClashKind} → x ≡ Between i j k → ClashVerdict i j k ≡ verdictOf d l
-  verdict-clash e = sym (by-clash ∙ ap (λ y. verdictBy y (listCount l) (d .best)) e)
+  pub verdict-clash : {i j : ℕ} {k : ClashKind} → x ≡ Between i j k → ClashVerdict i j k ≡ verdictAt s best l
+  verdict-clash e = sym (by-clash ∙ ap (λ y. verdictBy y (listCount l) best) e)
 
-  pub verdict-valid : {count shortfall : ℕ} → x ≡ None → count ≡ listCount l → shortfall ≡ d .best - count → Valid count shortfall ≡ verdictOf d l
-  verdict-valid e c s = ap₂ Valid c (s ∙ ap (λ n. d .best - n) c) ∙ sym (by-clash ∙ ap (λ y. verdictBy y (listCount l) (d .best)) e)
+  pub verdict-valid : {count shortfall : ℕ} → x ≡ None → count ≡ listCount l → shortfall ≡ best - count → Valid count shortfall ≡ verdictAt s best l
+  verdict-valid e c s = ap₂ Valid c (s ∙ ap (λ n. best - n) c) ∙ sym (by-clash ∙ ap (λ y. verdictBy y (listCount l) best) e)
 
 -- LOADING, from the promise of make
 
@@ -111,32 +112,39 @@ making-load s cells =
     (λ e. rw e refl)
 
 module _ (s o w o′ w′ : List ℕ) (answer : MakeAnswer) (blank : o ≡ blankPlate) (m : Making s o w answer o′ w′) where
-  -- the number of make's answer is the load's first no
-  load-number : makeOutcome answer .number ≡ loadNo s (length w)
+  -- the questions of make are the load's
+  same-questions : makingNo s (length o) (length w) ≡ loadNo s (length w)
   unfolding blankPlate
-  load-number = (λ i. m .outcome i .number) ∙ ap (λ l. makingNo s (length l) (length w)) blank ∙ making-load s (length w)
+  same-questions = ap (λ l. makingNo s (length l) (length w)) blank ∙ making-load s (length w)
 
-  pub load-refused : (d : Desk) (r : LoadResult) (k : ℕ) → answer ≡ RefusedMaking k → r ≡ refusedLoad d k → (r ≡ loadOf d s w) × (w′ ≡ workspaceAfter (loadOutcome (r .answer) .number) w)
+  pub load-refused : (d : Desk) (r : LoadResult) (k : ℕ) → answer ≡ RefusedMaking k → (r .desk ≡ d) × (r .answer ≡ Refused k) → Loading d s w r w′
   load-refused d r k e q =
       let n : Making s o w (RefusedMaking k) o′ w′ = rw e at m in
-      let z : k ≡ loadNo s (length w) = sym (ap (λ a. makeOutcome a .number) e) ∙ load-number in
-      let ne : (loadNo s (length w) ≡ 0 → ⊥) = λ y. true≢false ((λ i. n .outcome i .refused) ∙ ap (λ j. not (eqb j 0)) (sym (λ i. n .outcome i .number) ∙ z ∙ y)) in
-      (q ∙ ap (refusedLoad d) z ∙ sym (load-no d s w ne), n .workspace ∙ ap (λ r. workspaceAfter (loadOutcome (r .answer) .number) w) (sym q))
+      let f : loadOutcome (Refused k) ≡ outcomeOf (makingNo s (length o) (length w)) = λ i. record { refused = n .outcome i .refused; number = n .outcome i .number } in
+      record {
+        outcome = ap loadOutcome (q .1) ∙ f ∙ ap outcomeOf same-questions;
+        desk = q .0 ∙ ap (λ a. loadedDesk a d s) (sym (q .1));
+        workspace = n .workspace ∙ ap (λ a. workspaceAfter (loadOutcome a .number) w) (sym (q .1));
+      }
 
-  pub made-accepted : (r : ℕ) → answer ≡ Made r → loadNo s (length w) ≡ 0
-  made-accepted r e = sym load-number ∙ ap (λ a. makeOutcome a .number) e
+  made-accepted : (r : ℕ) → answer ≡ Made r → loadNo s (length w) ≡ 0
+  made-accepted r e = sym same-questions ∙ sym (λ i. m .outcome i .number) ∙ ap (λ a. makeOutcome a .number) e
 
   pub made-short : (r : ℕ) → answer ≡ Made r → length s ≤ 202
   made-short r e = let a = none-load s (length w) .is (made-accepted r e) .0 in let l = a .long in let f = a .proper .few in omega arith
 
-  pub made-count : (r : ℕ) → answer ≡ Made r → insideCount o′ ≡ bestCount (pointsOf s)
+  made-count : (r : ℕ) → answer ≡ Made r → insideCount o′ ≡ bestCount (pointsOf s)
   made-count r e =
       let a = none-load s (length w) .is (made-accepted r e) .0 in
       let n : Making s o w (Made r) o′ w′ = rw e at m in
       let b : BestOutput s o o′ = n .output in
       ap insideCount (b .plate) ∙ plate-count s (b .choice) a _ ∙ b .best
 
-  pub load-made : (d e : Desk) (r best : ℕ) → answer ≡ Made r → best ≡ insideCount o′ → e ≡ withSheet d s best → (record { desk = e; answer = Accepted } ≡ loadOf d s w) × (w′ ≡ replicate (length w) 0)
+  pub load-made : (d e : Desk) (r best : ℕ) → answer ≡ Made r → best ≡ insideCount o′ → e ≡ withSheet d s best → Loading d s w (record { desk = e; answer = Accepted }) w′
   load-made d e r best h q c =
       let n : Making s o w (Made r) o′ w′ = rw h at m in
-      (ap (λ x. record { desk = x; answer = Accepted }) (c ∙ ap (withSheet d s) (q ∙ made-count r h)) ∙ sym (load-yes d s w (made-accepted r h)), n .workspace)
+      record {
+        outcome = rw (made-accepted r h);
+        desk = c ∙ ap (withSheet d s) (q ∙ made-count r h);
+        workspace = n .workspace;
+      }

@@ -1,5 +1,5 @@
 -- DEMAND 3 over document 01's section "The desk": one theorem about every sequence of loads and marks from a fresh desk. First the
--- sequence and the desk that it leaves, by the terms of the contracts; then document 01's words, from the calls alone; then what the
+-- sequence and the desk that it leaves, by the promises of load and mark; then document 01's words, from the calls alone; then what the
 -- theorem claims, clause by clause; last its proof. Assumes nothing.
 use mathlib.Core.Path.{_≡_, refl, sym, ap, ap₂, _∙_}
 use mathlib.Core.Bool.{Bool, true, false, cond, _||_, true≢false}
@@ -34,13 +34,13 @@ use Rattle.plate_maker.specs.Making.{makeOutcome, makeOutcomeOf, BestOutput, Ma
 use Rattle.plate_maker.specs.declared.MakeAnswer.{MakeAnswer}
 use Rattle.plate_maker.specs.declared.MakeAnswer.the-variants.{Made, Refused}
 use Rattle.desk.specs.Questions.{loadNo, positions, listCount, listNo, loadedListNo, markNo}
-use Rattle.desk.specs.Desk.{fresh, loadOf, loadOutcome, verdictBy, verdictOf, firstNo, withLast, markOf, markOutcome}
+use Rattle.desk.specs.Desk.{fresh, loadOf, loadOutcome, verdictBy, verdictAt, verdictOf, firstNo, markedDesk, markOf, VerdictOutcome, validOutcome, clashOutcome, verdictOutcome, markOutcome}
 use Rattle.desk.specs.DeskLaws.{load-yes, load-no, none-load, mark-yes, mark-no, none-mark}
 use Rattle.desk.specs.Lists.{Listed, none-list, list-count, choice-listed}
 use Rattle.desk.specs.Loaded.{points-same, count-same, sectionRead, section-read}
 use Rattle.desk.specs.declared.Desk.{Desk}
+use Rattle.desk.specs.declared.MarkAnswer.the-variants.{Marked}
 use Rattle.desk.specs.declared.Verdict.{Verdict}
-use Rattle.desk.specs.declared.Verdict.the-variants.{Valid as ValidVerdict, Clash as ClashVerdict}
 
 -- THE SEQUENCE
 
@@ -55,7 +55,8 @@ pub data Calls : Type 0 where
   _andThen_ : Calls → Call → Calls
 
 infixl 20 _andThen_
--- The desk that a call hands back: the terms of the contracts of load and mark.
+-- The desk that a call hands back: loadOf and markOf are the one result that the promises of load and mark leave (loading-exactly,
+-- marking-exactly, of DeskLaws.antt).
 abbrev pub deskOf : Desk → Call → Desk
 deskOf d (load s w) = loadOf d s w .desk
 deskOf d (mark l) = markOf d l .desk
@@ -182,28 +183,23 @@ pub record LoadRight (calls : Calls) (s w : List ℕ) : Type 0 where
   -- and the desk as they were.
   pub same-desk : (AcceptedLoad s w → ⊥) → loadOf (deskAfter calls) s w .desk ≡ deskAfter calls
 
--- A verdict calls its list valid.
-abbrev pub calledValid : Verdict → Bool
-calledValid (ValidVerdict count shortfall) = true
-calledValid (ClashVerdict first second kind) = false
-
--- The verdict v on the list l of the sheet s.
-pub record VerdictRight (s l : List ℕ) (v : Verdict) : Type 0 where
+-- What the verdict on the list l of the sheet s says.
+pub record VerdictRight (s l : List ℕ) (v : VerdictOutcome) : Type 0 where
   -- "the desk calls C valid exactly when no pixel has two marks"
-  pub valid-exactly : (calledValid v ≡ true) ↔ Valid (pointsOf s) (choiceOfList l)
+  pub valid-exactly : (v .valid ≡ true) ↔ Valid (pointsOf s) (choiceOfList l)
   -- "a valid C is answered with C's count and, as its shortfall, the best count less C's count",
-  pub valid : Valid (pointsOf s) (choiceOfList l) → v ≡ ValidVerdict (listCount l) (bestCount (pointsOf s) - listCount l)
+  pub valid : Valid (pointsOf s) (choiceOfList l) → v ≡ validOutcome (listCount l) (bestCount (pointsOf s) - listCount l)
   -- which is not above the best count
   pub at-most : Valid (pointsOf s) (choiceOfList l) → listCount l ≤ bestCount (pointsOf s)
   -- "and for any other C the desk names the clash that document 01 fixes": the smallest first position, then the smallest second, that
   -- share a pixel, with the kind labels exactly if both are inside (Named, of clash's ClashPixels.antt)
-  pub clash : (first second : ℕ) (kind : ClashKind) → (v ≡ ClashVerdict first second kind) ↔ Named (pointsOf s) (choiceOfList l) first second kind
+  pub clash : (first second : ℕ) (kind : ClashKind) → (v ≡ clashOutcome first second kind) ↔ Named (pointsOf s) (choiceOfList l) first second kind
 
 -- A marked list: there is a last accepted sheet, the answer has the next number and a verdict, and the verdict is right.
 pub record MarkedRight (calls : Calls) (l : List ℕ) : Type 0 where
   pub sheet : List ℕ
   pub last-accepted : lastSheet calls ≡ some sheet
-  pub verdict : Verdict
+  pub verdict : VerdictOutcome
   pub outcome : markOutcome (markOf (deskAfter calls) l .answer) ≡ record { refused = false; number = 0; listNumber = some (lastNumber calls + 1); verdict = some verdict }
   pub right : VerdictRight sheet l verdict
 
@@ -242,7 +238,8 @@ module _ (s l : List ℕ) (a : Accepted s) (f : Listed (pointCount s) l) where
   list-at-most : Valid (pointsOf s) (choiceOfList l) → listCount l ≤ bestCount (pointsOf s)
   list-at-most v = rw (list-count s l f) at (best-count-most (pointsOf s) (choiceOfList l) (a .proper .label-width .0) v)
 
-  verdict-right : VerdictRight s l (verdictBy (firstClash (pointsOf s) (choiceOfList l)) (listCount l) (bestCount (pointsOf s)))
+  verdict-right : VerdictRight s l (verdictOutcome (verdictAt s (bestCount (pointsOf s)) l))
+  unfolding verdictAt
   verdict-right = which (firstClash (pointsOf s) (choiceOfList l)) refl
     where
       c : FirstClashRight (pointsOf s) (choiceOfList l)
@@ -251,20 +248,25 @@ module _ (s l : List ℕ) (a : Accepted s) (f : Listed (pointCount s) l) where
       apart : {i j : ℕ} {k : ClashKind} → None ≡ Between i j k → ⊥
       apart e = true≢false (sym (ap isClash e))
 
-      which : (x : Clash) → firstClash (pointsOf s) (choiceOfList l) ≡ x → VerdictRight s l (verdictBy x (listCount l) (bestCount (pointsOf s)))
+      which : (x : Clash) → firstClash (pointsOf s) (choiceOfList l) ≡ x → VerdictRight s l (verdictOutcome (verdictBy x (listCount l) (bestCount (pointsOf s))))
       which None e = record {
         valid-exactly = (λ t. c .none .0 e, λ v. refl);
         valid = λ v. refl;
         at-most = list-at-most;
-        clash = λ i j k. (λ q. absurd (not-both refl (ap calledValid q)), λ n. absurd (apart (sym e ∙ c .between i j k .1 n)));
+        clash = λ i j k. (λ q. absurd (true≢false (λ t. q t .valid)), λ n. absurd (apart (sym e ∙ c .between i j k .1 n)));
       }
       which (Between i j k) e = record {
         valid-exactly = (λ t. absurd (not-both t refl), λ v. absurd (apart (sym (c .none .1 v) ∙ e)));
         valid = λ v. absurd (apart (sym (c .none .1 v) ∙ e));
         at-most = list-at-most;
         clash = λ a b m. (
-          λ q. let r : Between i j k ≡ Between a b m = cc in c .between a b m .0 (e ∙ r),
-          λ n. let r : Between i j k ≡ Between a b m = sym e ∙ c .between a b m .1 n in cc,
+          λ q.
+              let f : some i ≡ some a = λ t. q t .first in
+              let g : some j ≡ some b = λ t. q t .second in
+              let h : some k ≡ some m = λ t. q t .kind in
+              let r : Between i j k ≡ Between a b m = cc in
+              c .between a b m .0 (e ∙ r),
+          λ n. ap (λ x. verdictOutcome (verdictBy x (listCount l) (bestCount (pointsOf s)))) (sym e ∙ c .between a b m .1 n),
         );
       }
 
@@ -339,11 +341,11 @@ number-last k (x ∷ ls) l = ap (λ r. record { number = k; list = x } ∷ r) (n
 held-at : {d e : Desk} {o q : Option (List ℕ)} → d ≡ e → o ≡ q → SheetHeld e q → SheetHeld d o
 held-at p q h = rw (p, q) h
 
--- another last number leaves the sheet held
-held-last : (d : Desk) (k : ℕ) (o : Option (List ℕ)) → SheetHeld d o → SheetHeld (withLast d k) o
+-- a marked list leaves the sheet held
+held-marked : (d : Desk) (k : ℕ) (v : Verdict) (o : Option (List ℕ)) → SheetHeld d o → SheetHeld (markedDesk (Marked k v) d) o
 unfolding SheetHeld
-held-last d k none h = h
-held-last d k (some s) h = h
+held-marked d k v none h = h
+held-marked d k v (some s) h = h
 
 tied-load : (calls : Calls) (s w : List ℕ) → Tied calls → Tied (calls andThen load s w)
 unfolding deskAfter lastSheet loadedAfter markedLists numberedLists SheetHeld
@@ -378,7 +380,7 @@ tied-mark calls l t =
     let r = mark-yes d l (markNoAfter calls l) k (eqb-true _ _ e) in
     let n : d .last + 1 ≡ 1 + length ls = (let q = t .last in omega arith) in
     record {
-      sheet = held-at (ap (λ r. r .desk) r) refl (held-last d (d .last + 1) (lastSheet calls) (t .sheet));
+      sheet = held-at (ap (λ r. r .desk) r) refl (held-marked d (d .last + 1) (verdictOf d l) (lastSheet calls) (t .sheet));
       loaded = t .loaded;
       last = ap (λ r. r .desk .last) r ∙ rw (e, length-append) (omega arith);
       numbers =
@@ -425,9 +427,9 @@ load-right calls s w = record {
     d : Desk
     d = deskAfter calls
 
--- a desk that holds the sheet s gives the verdict that the first clash on s gives
-verdict-held : (d : Desk) (s l : List ℕ) → SheetHeld d (some s) → verdictOf d l ≡ verdictBy (firstClash (pointsOf s) (choiceOfList l)) (listCount l) (bestCount (pointsOf s))
-unfolding SheetHeld verdictOf
+-- a desk that holds the sheet s gives the verdict on s
+verdict-held : (d : Desk) (s l : List ℕ) → SheetHeld d (some s) → verdictOf d l ≡ verdictAt s (bestCount (pointsOf s)) l
+unfolding SheetHeld verdictAt
 verdict-held d s l h = ap₂ (λ P b. verdictBy (firstClash P (choiceOfList l)) (listCount l) b) (ap pointsOf (h .1) ∙ points-same s) (h .2)
 
 marked-right : (calls : Calls) (l : List ℕ) → MarkedAfter calls l → MarkedRight calls l
@@ -451,8 +453,8 @@ marked-right calls l z = by (lastSheet calls) refl
         record {
           sheet = s;
           last-accepted = e;
-          verdict = verdictOf d l;
-          outcome = ap (λ r. markOutcome (r .answer)) (mark-yes d l (markNoAfter calls l) (tied-mark-no calls l t) z) ∙ ap (λ k. record { refused = false; number = 0; listNumber = some (k + 1); verdict = some (verdictOf d l) }) (t .last);
+          verdict = verdictOutcome (verdictOf d l);
+          outcome = ap (λ r. markOutcome (r .answer)) (mark-yes d l (markNoAfter calls l) (tied-mark-no calls l t) z) ∙ ap (λ k. record { refused = false; number = 0; listNumber = some (k + 1); verdict = some (verdictOutcome (verdictOf d l)) }) (t .last);
           right = rw (verdict-held d s l h) (verdict-right s l (h .3) f);
         }
 

@@ -1,4 +1,5 @@
--- What load and mark answer and leave, on every value of the desk, reachable or not (document 01, "The desk"). Assumes nothing.
+-- What load and mark answer and leave, on every value of the desk, reachable or not (document 01, "The desk"): the promises of the two
+-- calls. Assumes nothing.
 use mathlib.Core.Path.{_≡_, refl, sym}
 use mathlib.Core.Bool.{Bool, true, false, cond, not, true≢false}
 use mathlib.Core.List.{List}
@@ -9,8 +10,10 @@ use lib.ListN.{length, replicate}
 use Rattle.format.specs.Padded.{padded}
 use Rattle.labeling.specs.Best.{bestCount}
 use Rattle.format.specs.Sheet.{pointCount, pointsOf}
-use Rattle.format.specs.Answers.{Outcome}
+use Rattle.format.specs.Answers.{Outcome, outcomeOf}
+use Rattle.format.specs.MakingQuestions.{workspaceAfter}
 use Rattle.format.specs.Plate.{choiceOf}
+use Rattle.clash.specs.declared.ClashKind.{ClashKind}
 use Rattle.clash.specs.declared.Clash.{Clash}
 use Rattle.clash.specs.declared.Clash.the-variants.{None, Between}
 use Rattle.clash.specs.FirstClash.{firstClash}
@@ -35,27 +38,26 @@ fresh = record { sheet = noSheet; loaded = false; best = 0; last = 0 }
 
 -- LOAD
 
+-- The cases of load's answer: whether it is refused, and the number of the first no, 0 where nothing is refused.
+abbrev pub loadOutcome : LoadAnswer → Outcome
+loadOutcome Accepted = record { refused = false; number = 0 }
+loadOutcome (Refused k) = record { refused = true; number = k }
+
 -- "A load replaces the sheet and its best count and keeps the last number." The desk has 202 bytes for a sheet, 10 + 6 · 32, zeros past
 -- its end.
 abbrev pub withSheet : Desk → List ℕ → ℕ → Desk
 withSheet d s best = record { sheet = padded 202 s; loaded = true; best = best; last = d .last }
 
--- "The first no ends the call with its number ...; buffers, workspace and desk stay untouched."
-abbrev pub refusedLoad : Desk → ℕ → LoadResult
-refusedLoad d k = record { desk = d; answer = Refused k }
+-- The desk d after a load of the bytes s: by cases on the answer. "buffers, workspace and desk stay untouched" on a refusal.
+abbrev pub loadedDesk : LoadAnswer → Desk → List ℕ → Desk
+loadedDesk Accepted d s = withSheet d s (bestCount (pointsOf s))
+loadedDesk (Refused k) d s = d
 
--- The desk and the answer where the first no is k.
-abbrev pub loadBy : ℕ → Desk → List ℕ → LoadResult
-loadBy k d s = cond (eqb k 0) (record { desk = withSheet d s (bestCount (pointsOf s)); answer = Accepted }) (refusedLoad d k)
-
--- What a load of the bytes s with the workspace w gives.
-unfoldable pub loadOf : Desk → List ℕ → List ℕ → LoadResult
-loadOf d s w = loadBy (loadNo s (length w)) d s
-
--- The cases of load's answer: whether it is refused, and the number of the first no, 0 where nothing is refused.
-abbrev pub loadOutcome : LoadAnswer → Outcome
-loadOutcome Accepted = record { refused = false; number = 0 }
-loadOutcome (Refused k) = record { refused = true; number = k }
+-- THE PROMISE of load, on any desk d, bytes s and workspace w: its answer, and what desk and workspace hold afterwards.
+pub record Loading (d : Desk) (s w : List ℕ) (r : LoadResult) (w′ : List ℕ) : Type 0 where
+  pub outcome : loadOutcome (r .answer) ≡ outcomeOf (loadNo s (length w))
+  pub desk : r .desk ≡ loadedDesk (r .answer) d s
+  pub workspace : w′ ≡ workspaceAfter (loadOutcome (r .answer) .number) w
 
 -- an outcome fixes the answer, constructor and number
 pub load-outcome-fixes : (a b : LoadAnswer) → loadOutcome a ≡ loadOutcome b → a ≡ b
@@ -64,37 +66,42 @@ load-outcome-fixes Accepted (Refused k) e = absurd (true≢false (λ i. sym e i 
 load-outcome-fixes (Refused k) Accepted e = absurd (true≢false (λ i. e i .refused))
 load-outcome-fixes (Refused k) (Refused m) e = λ i. Refused (e i .number)
 
+-- The answer where the first no is k.
+abbrev pub loadAnswerOf : ℕ → LoadAnswer
+loadAnswerOf k = cond (eqb k 0) Accepted (Refused k)
+
+-- What a load with this answer gives.
+abbrev pub loadResult : Desk → List ℕ → LoadAnswer → LoadResult
+loadResult d s a = record { desk = loadedDesk a d s; answer = a }
+
+-- THE ONE RESULT that the promise leaves (loading-exactly, of DeskLaws.antt), as a term.
+unfoldable pub loadOf : Desk → List ℕ → List ℕ → LoadResult
+loadOf d s w = loadResult d s (loadAnswerOf (loadNo s (length w)))
+
 -- MARK
 
--- "valid, with the list's count and its shortfall; or a clash, with two positions and whether two labels met or a label met a leader":
--- the verdict by the first clash. The shortfall is 0 where the count exceeds the desk's best.
-abbrev pub verdictBy : Clash → ℕ → ℕ → Verdict
-verdictBy None count best = Valid count (best - count)
-verdictBy (Between first second kind) count best = ClashVerdict first second kind
+-- What a verdict says: whether it calls the list valid; then "the list's count and its shortfall", or the "two positions and whether two
+-- labels met or a label met a leader".
+pub record VerdictOutcome : Type 0 where
+  pub valid : Bool
+  pub count : Option ℕ
+  pub shortfall : Option ℕ
+  pub first : Option ℕ
+  pub second : Option ℕ
+  pub kind : Option ClashKind
 
--- The verdict on the list l, at this desk.
-unfoldable pub verdictOf : Desk → List ℕ → Verdict
-verdictOf d l = verdictBy (firstClash (pointsOf (d .sheet)) (choiceOf (positions l))) (listCount l) (d .best)
+abbrev pub validOutcome : ℕ → ℕ → VerdictOutcome
+validOutcome count shortfall =
+    record { valid = true; count = some count; shortfall = some shortfall; first = none; second = none; kind = none }
 
--- The first no of a mark of the list l at this desk, 0 if there is none.
-abbrev pub firstNo : Desk → List ℕ → ℕ
-firstNo d l = markNo (d .loaded) (pointCount (d .sheet)) (d .last) l
+abbrev pub clashOutcome : ℕ → ℕ → ClashKind → VerdictOutcome
+clashOutcome first second kind =
+    record { valid = false; count = none; shortfall = none; first = some first; second = some second; kind = some kind }
 
--- The desk with the last number k.
-abbrev pub withLast : Desk → ℕ → Desk
-withLast d k = record { sheet = d .sheet; loaded = d .loaded; best = d .best; last = k }
-
--- The desk and the answer where the first no is k: "The answer carries the next number and a verdict", "Clashing lists use up a number
--- too", "a refused mark carries no list number and no verdict".
-abbrev pub markBy : ℕ → Desk → List ℕ → MarkResult
-markBy k d l =
-    cond (eqb k 0)
-    (record { desk = withLast d (nextNumber (d .last)); answer = Marked (nextNumber (d .last)) (verdictOf d l) })
-    (record { desk = d; answer = RefusedMark k })
-
--- What a mark of the list l gives.
-unfoldable pub markOf : Desk → List ℕ → MarkResult
-markOf d l = markBy (firstNo d l) d l
+-- The cases of a verdict.
+abbrev pub verdictOutcome : Verdict → VerdictOutcome
+verdictOutcome (Valid count shortfall) = validOutcome count shortfall
+verdictOutcome (ClashVerdict first second kind) = clashOutcome first second kind
 
 -- What an answer of mark says: whether it is refused, the number of the first no (0 where nothing is refused), and the list's number and
 -- the verdict on it, if it has them.
@@ -102,28 +109,86 @@ pub record MarkOutcome : Type 0 where
   pub refused : Bool
   pub number : ℕ
   pub listNumber : Option ℕ
-  pub verdict : Option Verdict
+  pub verdict : Option VerdictOutcome
 
 -- The cases of mark's answer.
 abbrev pub markOutcome : MarkAnswer → MarkOutcome
-markOutcome (Marked number verdict) = record { refused = false; number = 0; listNumber = some number; verdict = some verdict }
+markOutcome (Marked number verdict) =
+    record { refused = false; number = 0; listNumber = some number; verdict = some (verdictOutcome verdict) }
 markOutcome (RefusedMark k) = record { refused = true; number = k; listNumber = none; verdict = none }
 
--- The outcome of a mark whose first no is k, with the number and the verdict that it has if k is 0.
-abbrev pub markOutcomeOf : ℕ → ℕ → Verdict → MarkOutcome
-markOutcomeOf k number verdict = record {
+-- The first no of a mark of the list l at this desk, 0 if there is none.
+abbrev pub firstNo : Desk → List ℕ → ℕ
+firstNo d l = markNo (d .loaded) (pointCount (d .sheet)) (d .last) l
+
+-- The verdict by the first clash: "valid, with the list's count and its shortfall; or a clash, with two positions and whether two labels
+-- met or a label met a leader". The shortfall is 0 where the count exceeds the best.
+abbrev pub verdictBy : Clash → ℕ → ℕ → Verdict
+verdictBy None count best = Valid count (best - count)
+verdictBy (Between first second kind) count best = ClashVerdict first second kind
+
+-- The verdict on the list l of the sheet s, where the best count is `best`.
+unfoldable pub verdictAt : List ℕ → ℕ → List ℕ → Verdict
+verdictAt s best l = verdictBy (firstClash (pointsOf s) (choiceOf (positions l))) (listCount l) best
+
+-- The verdict on the list l at this desk.
+abbrev pub verdictOf : Desk → List ℕ → Verdict
+verdictOf d l = verdictAt (d .sheet) (d .best) l
+
+-- The outcome of a mark of the list l at this desk, where the first no is k: "The answer carries the next number and a verdict"; "a refused
+-- mark carries no list number and no verdict".
+abbrev pub markOutcomeOf : Desk → List ℕ → ℕ → MarkOutcome
+markOutcomeOf d l k = record {
   refused = not (eqb k 0);
   number = k;
-  listNumber = cond (eqb k 0) (some number) none;
-  verdict = cond (eqb k 0) (some verdict) none;
+  listNumber = cond (eqb k 0) (some (nextNumber (d .last))) none;
+  verdict = cond (eqb k 0) (some (verdictOutcome (verdictOf d l))) none;
 }
 
--- an outcome fixes the answer, constructor, numbers and verdict
+-- The desk d after a mark: by cases on the answer. A marked list's number is the last one, whatever the verdict: "Clashing lists use up a
+-- number too". "buffers, workspace and desk stay untouched" on a refusal.
+abbrev pub markedDesk : MarkAnswer → Desk → Desk
+markedDesk (Marked number verdict) d = record { sheet = d .sheet; loaded = d .loaded; best = d .best; last = number }
+markedDesk (RefusedMark k) d = d
+
+-- THE PROMISE of mark, on any desk d and list l: its answer, and what the desk holds afterwards.
+pub record Marking (d : Desk) (l : List ℕ) (r : MarkResult) : Type 0 where
+  pub outcome : markOutcome (r .answer) ≡ markOutcomeOf d l (firstNo d l)
+  pub desk : r .desk ≡ markedDesk (r .answer) d
+
+-- an outcome fixes the verdict,
+pub verdict-outcome-fixes : (v u : Verdict) → verdictOutcome v ≡ verdictOutcome u → v ≡ u
+verdict-outcome-fixes (Valid n f) (Valid m g) e =
+    let p : some n ≡ some m = λ i. e i .count in
+    let q : some f ≡ some g = λ i. e i .shortfall in
+    cc
+verdict-outcome-fixes (Valid n f) (ClashVerdict i j k) e = absurd (true≢false (λ t. e t .valid))
+verdict-outcome-fixes (ClashVerdict i j k) (Valid m g) e = absurd (true≢false (λ t. sym e t .valid))
+verdict-outcome-fixes (ClashVerdict i j k) (ClashVerdict a b c) e =
+    let p : some i ≡ some a = λ t. e t .first in
+    let q : some j ≡ some b = λ t. e t .second in
+    let r : some k ≡ some c = λ t. e t .kind in
+    cc
+
+-- and the answer: constructor, numbers and verdict
 pub mark-outcome-fixes : (a b : MarkAnswer) → markOutcome a ≡ markOutcome b → a ≡ b
 mark-outcome-fixes (Marked n v) (Marked m u) e =
     let p : some n ≡ some m = λ i. e i .listNumber in
-    let q : some v ≡ some u = λ i. e i .verdict in
+    let q : some (verdictOutcome v) ≡ some (verdictOutcome u) = λ i. e i .verdict in
+    let w : v ≡ u = verdict-outcome-fixes v u (cc) in
     cc
 mark-outcome-fixes (Marked n v) (RefusedMark k) e = absurd (true≢false (λ i. sym e i .refused))
 mark-outcome-fixes (RefusedMark k) (Marked m u) e = absurd (true≢false (λ i. e i .refused))
 mark-outcome-fixes (RefusedMark k) (RefusedMark m) e = λ i. RefusedMark (e i .number)
+
+-- The answer where the first no is k.
+abbrev pub markAnswerOf : Desk → List ℕ → ℕ → MarkAnswer
+markAnswerOf d l k = cond (eqb k 0) (Marked (nextNumber (d .last)) (verdictOf d l)) (RefusedMark k)
+
+-- What a mark with this answer gives.
+abbrev pub markResult : Desk → MarkAnswer → MarkResult
+markResult d a = record { desk = markedDesk a d; answer = a }
+
+-- THE ONE RESULT that the promise leaves (marking-exactly, of DeskLaws.antt), as a term.
+unfoldable pub markOf : Desk → List ℕ → MarkResult
+markOf d l = markResult d (markAnswerOf d l (firstNo d l))

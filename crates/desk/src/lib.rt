@@ -9,8 +9,7 @@ use marking::first_no;
 use plate_maker::MakeAnswer;
 use plate_reader::inside_count;
 ghost use mathlib.Core.Path.{_≡_};
-ghost use Rattle.format.specs.MakingQuestions.{workspaceAfter};
-ghost use Rattle.desk.specs.Desk.{fresh, loadOf, loadOutcome, markOf};
+ghost use Rattle.desk.specs.Desk.{fresh, Loading, Marking};
 
 mod loading;
 mod marking;
@@ -78,7 +77,7 @@ impl Desk {
 
     // Loads a sheet: it replaces the desk's sheet and best count, and the last number is kept.
     pub fn load(self, sheet: &[u8], workspace: &mut [u16]) -> LoadResult
-        ensures { λ r. ⌜ (r ≡ loadOf self (now (sheet .entry)) (now (workspace .entry))) × (now (workspace .exit) ≡ workspaceAfter (loadOutcome (r .answer) .number) (now (workspace .entry))) ⌝ }
+        ensures { λ r. ⌜ Loading self (now (sheet .entry)) (now (workspace .entry)) r (now (workspace .exit)) ⌝ }
     {
         let mut plate = blank_plate();
         match plate_maker::make(sheet, &mut plate, workspace) {
@@ -92,7 +91,7 @@ impl Desk {
 
     // Marks a list: it takes the next number and gets a verdict.
     pub fn mark(self, list: &[u8]) -> MarkResult
-        ensures { λ r. ⌜ r ≡ markOf self (now (list .entry)) ⌝ }
+        ensures { λ r. ⌜ Marking self (now (list .entry)) r ⌝ }
     {
         let no = first_no(self, list);
         answer_to(self, list, no)

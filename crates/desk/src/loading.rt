@@ -6,7 +6,7 @@ ghost use mathlib.Core.Path.{_≡_};
 ghost use Prim.Native.Nat.{_≤_};
 ghost use lib.ListN.{length};
 ghost use Rattle.format.specs.Padded.{padded};
-ghost use Rattle.desk.specs.Desk.{noSheet, refusedLoad, withSheet};
+ghost use Rattle.desk.specs.Desk.{noSheet, withSheet};
 ghost use Rattle.desk.specs.Blank.{blankPlate};
 
 // The bytes of no sheet.
@@ -52,7 +52,7 @@ pub(crate) fn with_sheet(desk: Desk, sheet: &[u8], best: u16) -> Desk
 
 // A refused load: the desk is as it was.
 pub(crate) fn refused_load(desk: Desk, no: u8) -> LoadResult
-    ensures { λ r. ⌜ r ≡ refusedLoad desk no ⌝ }
+    ensures { λ r. ⌜ (r .desk ≡ desk) × (r .answer ≡ LoadAnswer.Refused no) ⌝ }
 {
     LoadResult {
         desk,

@@ -11,7 +11,7 @@ ghost use mathlib.Core.Path.{_≡_};
 ghost use Prim.Native.Nat.{_-_};
 ghost use Rattle.desk.specs.Questions.{listCount};
 ghost use Rattle.desk.specs.Lists.{Counted};
-ghost use Rattle.desk.specs.Desk.{verdictOf, firstNo, markOf};
+ghost use Rattle.desk.specs.Desk.{verdictAt, verdictOf, firstNo, Marking, markResult};
 
 // The count of a list whose count byte is right.
 fn list_count(list: &[u8]) -> u16
@@ -42,13 +42,12 @@ fn clash_named(first: u8, second: u8, kind: ClashKind) -> Verdict
     }
 }
 
-// The verdict on a list whose count byte is right.
-fn verdict_on(desk: Desk, list: &[u8]) -> Verdict
+// The verdict on a list whose count byte is right, of a sheet with this best count.
+fn verdict_at(sheet: &[u8], best: u16, list: &[u8]) -> Verdict
     requires { ⌜ Counted (now list) ⌝ }
-    ensures { λ r. ⌜ r ≡ verdictOf desk (now (list .entry)) ⌝ }
+    ensures { λ r. ⌜ r ≡ verdictAt (now (sheet .entry)) best (now (list .entry)) ⌝ }
 {
-    let sheet = desk.sheet;
-    match clash::first_clash(&sheet, &list[1..]) {
+    match clash::first_clash(sheet, &list[1..]) {
         Clash::Between {
             first,
             second,
@@ -58,9 +57,34 @@ fn verdict_on(desk: Desk, list: &[u8]) -> Verdict
             let count = list_count(list);
             Verdict::Valid {
                 count,
-                shortfall: shortfall_of(count, desk.best),
+                shortfall: shortfall_of(count, best),
             }
         }
+    }
+}
+
+// The verdict on a list whose count byte is right, at this desk.
+fn verdict_of(desk: Desk, list: &[u8]) -> Verdict
+    requires { ⌜ Counted (now list) ⌝ }
+    ensures { λ r. ⌜ r ≡ verdictOf desk (now (list .entry)) ⌝ }
+{
+    let sheet = desk.sheet;
+    verdict_at(&sheet, desk.best, list)
+}
+
+// A marked list: the desk with its number as the last one, and the answer.
+fn marked(desk: Desk, number: u16, verdict: Verdict) -> MarkResult
+    ensures { λ r. ⌜ r ≡ markResult desk (MarkAnswer.Marked number verdict) ⌝ }
+{
+    let sheet = desk.sheet;
+    MarkResult {
+        desk: Desk {
+            sheet,
+            loaded: desk.loaded,
+            best: desk.best,
+            last: number,
+        },
+        answer: MarkAnswer::Marked { number, verdict },
     }
 }
 
@@ -75,7 +99,7 @@ pub(crate) fn first_no(desk: Desk, list: &[u8]) -> u8
 // The answer to a mark whose first no is `no`, and the desk after it.
 pub(crate) fn answer_to(desk: Desk, list: &[u8], no: u8) -> MarkResult
     requires { ⌜ no ≡ firstNo desk (now list) ⌝ }
-    ensures { λ r. ⌜ r ≡ markOf desk (now (list .entry)) ⌝ }
+    ensures { λ r. ⌜ Marking desk (now (list .entry)) r ⌝ }
 {
     if no != 0 {
         return MarkResult {
@@ -83,18 +107,5 @@ pub(crate) fn answer_to(desk: Desk, list: &[u8], no: u8) -> MarkResult
             answer: MarkAnswer::Refused(no),
         };
     }
-    let sheet = desk.sheet;
-    let number = next_number(desk.last);
-    MarkResult {
-        desk: Desk {
-            sheet,
-            loaded: desk.loaded,
-            best: desk.best,
-            last: number,
-        },
-        answer: MarkAnswer::Marked {
-            number,
-            verdict: verdict_on(desk, list),
-        },
-    }
+    marked(desk, next_number(desk.last), verdict_of(desk, list))
 }

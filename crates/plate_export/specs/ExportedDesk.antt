@@ -5,7 +5,8 @@ use Prim.Native.Nat.{ℕ}
 use Rattle.clash.specs.declared.ClashKind.{ClashKind}
 use Rattle.clash.specs.declared.ClashKind.the-variants.{Labels, LabelAndLeader}
 use Rattle.format.specs.MakingQuestions.{workspaceAfter}
-use Rattle.desk.specs.Desk.{loadOf, loadOutcome, markOf}
+use Rattle.desk.specs.Desk.{loadOutcome, Loading, loadOf, Marking, markOf}
+use Rattle.desk.specs.DeskLaws.{loading-exactly, marking-exactly}
 use Rattle.desk.specs.declared.Desk.{Desk}
 use Rattle.desk.specs.declared.LoadResult.{LoadResult}
 use Rattle.desk.specs.declared.MarkAnswer.{MarkAnswer}
@@ -57,20 +58,20 @@ markReply r = answerReply (stateOf (r .desk)) (r .answer)
 
 pub load-replied : (d : Desk) (s w w′ : List ℕ) (e : Desk) (r : LoadResult) (a : DeskState) (k : ℕ) →
     e ≡ d →
-    (r ≡ loadOf e s w) × (w′ ≡ workspaceAfter (loadOutcome (r .answer) .number) w) →
+    Loading e s w r w′ →
     a ≡ stateOf (r .desk) →
     loadOutcome (r .answer) .number ≡ k →
     (record { desk = a; number = k } ≡ loadReply (loadOf d s w)) × (w′ ≡ workspaceAfter k w)
 load-replied d s w w′ e r a k p q f n = (
-  ap₂ (λ (x : DeskState) (m : ℕ). record { desk = x; number = m }) f (sym n) ∙ ap loadReply (q .0) ∙ ap (λ x. loadReply (loadOf x s w)) p,
-  q .1 ∙ ap (λ (m : ℕ). workspaceAfter m w) n,
+  ap₂ (λ (x : DeskState) (m : ℕ). record { desk = x; number = m }) f (sym n) ∙ ap loadReply (loading-exactly e s w w′ r .0 q .0) ∙ ap (λ x. loadReply (loadOf x s w)) p,
+  q .workspace ∙ ap (λ (m : ℕ). workspaceAfter m w) n,
 )
 
 pub mark-replied : (d : Desk) (l : List ℕ) (e : Desk) (r : MarkResult) (a : DeskState) (x : MarkAnswer) (t : DeskMarkResult) →
     e ≡ d →
-    r ≡ markOf e l →
+    Marking e l r →
     a ≡ stateOf (r .desk) →
     r .answer ≡ x →
     t ≡ answerReply a x →
     t ≡ markReply (markOf d l)
-mark-replied d l e r a x t p q f n y = y ∙ ap₂ answerReply f (sym n) ∙ ap markReply q ∙ ap (λ z. markReply (markOf z l)) p
+mark-replied d l e r a x t p q f n y = y ∙ ap₂ answerReply f (sym n) ∙ ap markReply (marking-exactly e l r .0 q) ∙ ap (λ z. markReply (markOf z l)) p

@@ -1,6 +1,7 @@
 -- `session::run_load` meets its contract. Assumes nothing.
 use borrow.Author.Needs.{needs}
 use mathlib.Core.Path.{ap}
+use Rattle.desk.specs.DeskLaws.{loading-exactly}
 use Rattle.desk.specs.declared.LoadResult.{LoadResult}
 use Rattle.session.proofs.run_load.Statement.{statement}
 use Rattle.session.proofs.run_load.Tie as tie
@@ -24,10 +25,10 @@ print-refusal-requires : tie.Need-print-refusal-requires
 print-refusal-requires c κs = search needs
 
 returns : tie.Need-returns
-returns c = ap (λ (r : LoadResult). r .desk) (c .before .before .before .before .before .load .ensures .0)
+returns c = ap (λ (r : LoadResult). r .desk) (loading-exactly _ _ _ _ _ .0 (c .before .before .before .before .before .load .ensures) .0)
 
 returns-2 : tie.Need-returns-2
-returns-2 c = ap (λ (r : LoadResult). r .desk) (c .before .before .before .before .before .before .load .ensures .0)
+returns-2 c = ap (λ (r : LoadResult). r .desk) (loading-exactly _ _ _ _ _ .0 (c .before .before .before .before .before .before .load .ensures) .0)
 
 pub run-load-spec : {M : Type 1} → statement M
 run-load-spec =

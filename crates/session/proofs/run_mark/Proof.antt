@@ -1,6 +1,7 @@
 -- `session::run_mark` meets its contract. Assumes nothing.
 use borrow.Author.Needs.{needs}
 use mathlib.Core.Path.{ap}
+use Rattle.desk.specs.DeskLaws.{marking-exactly}
 use Rattle.desk.specs.declared.MarkResult.{MarkResult}
 use Rattle.session.proofs.run_mark.Statement.{statement}
 use Rattle.session.proofs.run_mark.Tie as tie
@@ -27,10 +28,10 @@ print-refusal-requires : tie.Need-print-refusal-requires
 print-refusal-requires c κs = search needs
 
 returns : tie.Need-returns
-returns c = ap (λ (r : MarkResult). r .desk) (c .before .before .before .before .before .before .mark .ensures)
+returns c = ap (λ (r : MarkResult). r .desk) (marking-exactly _ _ _ .0 (c .before .before .before .before .before .before .mark .ensures))
 
 returns-2 : tie.Need-returns-2
-returns-2 c = ap (λ (r : MarkResult). r .desk) (c .before .before .before .before .before .mark .ensures)
+returns-2 c = ap (λ (r : MarkResult). r .desk) (marking-exactly _ _ _ .0 (c .before .before .before .before .before .mark .ensures))
 
 pub run-mark-spec : {M : Type 1} → statement M
 run-mark-spec =

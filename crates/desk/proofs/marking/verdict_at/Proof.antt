@@ -1,12 +1,9 @@
--- `desk::marking::verdict_on` meets its contract. Assumes nothing.
+-- `desk::marking::verdict_at` meets its contract. Assumes nothing.
 use mathlib.Core.Path.{_∙_}
 use borrow.Author.Needs.{needs}
 use Rattle.desk.proofs.Laws.{verdict-clash, verdict-valid}
-use Rattle.desk.proofs.marking.verdict_on.Statement.{statement}
-use Rattle.desk.proofs.marking.verdict_on.Tie as tie
-
-slice-aggregate-first-clash : tie.Need-slice-aggregate-first-clash
-slice-aggregate-first-clash c = search needs
+use Rattle.desk.proofs.marking.verdict_at.Statement.{statement}
+use Rattle.desk.proofs.marking.verdict_at.Tie as tie
 
 sub-first-clash : tie.Need-sub-first-clash
 sub-first-clash c = search needs
@@ -36,16 +33,15 @@ shortfall-of-requires : tie.Need-shortfall-of-requires
 shortfall-of-requires c κs = search needs
 
 returns : tie.Need-returns
-returns c = c .clash-named .ensures ∙ verdict-clash _ _ _ (c .before .before .before .before .first-clash .ensures) (c .before .before .first .given .1)
+returns c = c .clash-named .ensures ∙ verdict-clash _ _ _ _ (c .before .before .before .before .first-clash .ensures) (c .before .before .first .given .1)
 
 returns-2 : tie.Need-returns-2
-returns-2 c = verdict-valid _ _ _ (c .before .before .before .before .first-clash .ensures) (c .before .before .enum-told .given .1) (c .before .list-count .ensures) (c .shortfall-of .ensures)
+returns-2 c = verdict-valid _ _ _ _ (c .before .before .before .before .first-clash .ensures) (c .before .before .enum-told .given .1) (c .before .list-count .ensures) (c .shortfall-of .ensures)
 
-pub verdict-on-spec : {M : Type 1} → statement M
-verdict-on-spec =
+pub verdict-at-spec : {M : Type 1} → statement M
+verdict-at-spec =
     tie.close
     (tie.spec
-    slice-aggregate-first-clash
     sub-first-clash
     part-first-clash-start
     part-first-clash-end
