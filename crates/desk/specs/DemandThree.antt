@@ -6,9 +6,9 @@ use mathlib.Core.Bool.{Bool, true, false, cond, _||_, true≢false}
 use mathlib.Core.Logic.{_↔_}
 use mathlib.Core.List.{List, [], _∷_, _++_, append-nil}
 use mathlib.Core.Option.{Option, none, some}
-use Prim.Native.Nat.{ℕ, suc, _+_, _-_, _≤_, _<_}
+use Prim.Native.Nat.{ℕ, suc, _+_, _*_, _-_, _≤_, _<_}
 use lib.Dec.{eqb}
-use lib.ListN.{length, take, drop, replicate, length-append}
+use lib.ListN.{length, take, drop, replicate, length-append, length-replicate}
 use lib.Seq.{take-at}
 use borrow.Author.Tests.{eqb-true, eqb-false, ne-eqb}
 use native.Mathlib.Omega.{arith}
@@ -17,7 +17,7 @@ use Rattle.labeling.specs.Points.{Choice}
 use Rattle.labeling.specs.Marks.{Valid}
 use Rattle.labeling.specs.Best.{weight, count, bestCount}
 use Rattle.labeling.specs.Agree.{valid-agree}
-use Rattle.labeling.specs.Greatest.{best-count-most}
+use Rattle.labeling.specs.Greatest.{best-count-most, best-count-reached}
 use Rattle.labeling.specs.Tests.{not-both, decide}
 use Rattle.format.specs.Sheet.{pointCount, pointsOf}
 use Rattle.format.specs.Accepted.{Accepted}
@@ -29,7 +29,7 @@ use Rattle.clash.specs.declared.Clash.the-variants.{None, Between}
 use Rattle.clash.specs.FirstClash.{isClash, firstClash}
 use Rattle.clash.specs.ClashPixels.{Named, FirstClashRight, first-clash-right}
 use Rattle.plate_reader.specs.InsideList.{choice-of-list, inside-ascending}
-use Rattle.format.specs.MakingQuestions.{makingNo, workspaceAfter}
+use Rattle.format.specs.MakingQuestions.{makingNo, none-making, workspaceAfter}
 use Rattle.plate_maker.specs.Making.{makeOutcome, makeOutcomeOf, BestOutput, Making}
 use Rattle.plate_maker.specs.declared.MakeAnswer.{MakeAnswer}
 use Rattle.plate_maker.specs.declared.MakeAnswer.the-variants.{Made, Refused}
@@ -230,6 +230,8 @@ pub record DemandThree (calls : Calls) : Type 0 where
   -- "At every point of the sequence that has a last accepted sheet S, the inside section of every plate made from S, count byte included":
   -- sectionRead, of Loaded.antt, takes it from the plate's bytes
   pub plates : (s : List ℕ) → lastSheet calls ≡ some s → (p : List ℕ) → PlateMade s p → BestList s (sectionRead p)
+  -- There is such a plate: the claim never holds for want of one.
+  pub some-plate : (s : List ℕ) → lastSheet calls ≡ some s → (p : List ℕ) × PlateMade s p
 
 -- THE PROOF
 
@@ -304,6 +306,28 @@ plate-made-best s p a m = by (m .answer) (m .made) (m .not-refused) (m .plate)
         let g : length (plateOf s S) ≡ r = best-length s S a (x .best) ∙ sym n in
         let h : p ≡ plateOf s S = q ∙ ap (take r) (x .plate) ∙ take-at (plateOf s S) (drop (length (plateOf s S)) o) r g in
         rw (h, section-read s S a) (choice-best s a S (x .valid) (x .best))
+
+-- from every accepted sheet some plate is made: a best choice exists, and its plate with zeroed buffers meets the promise
+pub some-plate : (s : List ℕ) → Accepted s → (p : List ℕ) × PlateMade s p
+some-plate s a =
+    let S = best-count-reached (pointsOf s) (a .proper .label-width .0) (a .proper .rows) in
+    let o : List ℕ = replicate (12 + 8 * pointCount s) 0 in
+    let w : List ℕ = replicate 32768 0 in
+    let room : 12 + 8 * pointCount s ≤ length o = rw (length-replicate {A = ℕ} (12 + 8 * pointCount s) 0) (omega arith) in
+    let cells : 32768 ≤ length w = rw (length-replicate {A = ℕ} 32768 0) (omega arith) in
+    let z : makingNo s (length o) (length w) ≡ 0 = none-making s (length o) (length w) .of (a, (room, (cells, tt))) in (
+      _,
+      record {
+        output = o;
+        workspace = w;
+        answer = Made (bestLength s);
+        output-after = plateOf s (S .0) ++ drop (length (plateOf s (S .0))) o;
+        workspace-after = workspaceAfter 0 w;
+        made = record { outcome = ap (makeOutcomeOf s) (sym z); workspace = refl; output = record { choice = S .0; valid = S .1; best = S .2; plate = refl } };
+        not-refused = refl;
+        plate = refl;
+      },
+    )
 
 -- THE DESK AFTER ANY CALLS, tied to the words.
 
@@ -473,4 +497,5 @@ demand-three calls = record {
   load = load-right calls;
   mark = mark-right calls;
   plates = λ s e p m. plate-made-best s p (sheet-accepted calls s e) m;
+  some-plate = λ s e. some-plate s (sheet-accepted calls s e);
 }
