@@ -26,7 +26,7 @@ add-if2 c = omega (arith, c .shared-slice-known2 .given 0)
 
 returns-2 : tie.Need-returns-2
 unfolding listNo
-returns-2 c = ask-no _ 31 _ (dec-false (dec-counted _) (λ y. c .if2 .taken (y .1)))
+returns-2 c = ask-no _ 31 _ (dec-false (dec-counted _) (λ y. omega arith))
 
 sub-entries-no : tie.Need-sub-entries-no
 sub-entries-no c = search needs
