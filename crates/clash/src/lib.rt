@@ -13,7 +13,7 @@ ghost use Rattle.labeling.specs.Conflicts.{overlapB, hitsB};
 ghost use Rattle.format.specs.Sheet.{pointCount, pointsOf};
 ghost use Rattle.format.specs.Plate.{choiceOf};
 ghost use Rattle.clash.specs.FirstClash.{isClash, clashIf, pairClash, clashOf, firstClash};
-ghost use Rattle.clash.specs.ChoiceFlags.{nobodyInside, held, Holds};
+ghost use Rattle.clash.specs.ChoiceFlags.{nobodyInside, held, flagsOf};
 
 // Whether two labels met or a label met a leader.
 pub enum ClashKind {
@@ -55,7 +55,7 @@ fn nobody_inside() -> [bool; 256]
 
 // The choice with just the listed positions inside, a flag for each position.
 pub fn choice_of(list: &[u8]) -> [bool; 256]
-    ensures { λ r. ⌜ Holds r (now (list .entry)) ⌝ }
+    ensures { λ r. ⌜ r ≡ flagsOf (now (list .entry)) ⌝ }
 {
     let mut inside = nobody_inside();
     let mut k = 0;

@@ -14,7 +14,7 @@ use Rattle.labeling.specs.Tests.{same}
 use Rattle.format.specs.Sheet.{pointCount, pointsOf, plateSheetNo}
 use Rattle.format.specs.Accepted.{none-plate-sheet}
 use Rattle.format.specs.Plate.{choiceOf}
-use Rattle.clash.specs.ChoiceFlags.{held, Holds}
+use Rattle.clash.specs.ChoiceFlags.{held, flagsOf, flags-hold}
 use Rattle.plate_reader.specs.PlateQuestions.{sheetOf, insideCount, insideStart, insideList, outsideStart, outsideCount, outsidePairs, sectionsFit, belowFirst, ascending, pairsRight, plateNo, handedBack, handedBackAt}
 use Rattle.plate_reader.specs.OutsideWalk.{outsidePoint, pairFollows, pairsAfter, pairsFollow, follow-same}
 use Rattle.plate_reader.specs.PlateSections.{dec-fit, none-plate, start-accepted}
@@ -163,12 +163,12 @@ module _ (P : Points) (S : Choice) where
       q ∙ rw (take-all (length b - 2) (drop 2 b) all) (pairs-on b l e z)
 
 -- the walk over the parts of a plate
-pub walk-read : (p sheet list bytes : List ℕ) (flags : List Bool) → plateSheetNo p ≡ 0 → sectionsFit p ≡ true → ascending (pointCount p) (insideList p) ≡ true → sheet ≡ sheetOf p → list ≡ insideList p → bytes ≡ outsidePairs p → Holds flags list → pairsFollow (pointsOf sheet) (held flags) bytes ≡ pairsRight (pointsOf (sheetOf p)) (choiceOf (insideList p)) (outsidePairs p)
+pub walk-read : (p sheet list bytes : List ℕ) (flags : List Bool) → plateSheetNo p ≡ 0 → sectionsFit p ≡ true → ascending (pointCount p) (insideList p) ≡ true → sheet ≡ sheetOf p → list ≡ insideList p → bytes ≡ outsidePairs p → flags ≡ flagsOf list → pairsFollow (pointsOf sheet) (held flags) bytes ≡ pairsRight (pointsOf (sheetOf p)) (choiceOf (insideList p)) (outsidePairs p)
 walk-read p sheet list bytes flags z fit up es el eb h =
     let q = none-plate-sheet p .is z in
     let few = start-accepted p (q .1) (q .0) .proper .few in
     rw (es, eb)
-    (follow-same (pointsOf (sheetOf p)) (held flags) (choiceOf (insideList p)) (λ i l. rw el at (h .at i (omega arith))) (outsidePairs p)
+    (follow-same (pointsOf (sheetOf p)) (held flags) (choiceOf (insideList p)) (λ i l. rw el at (flags-hold flags list h i (omega arith))) (outsidePairs p)
     ∙ walk-answers p z fit up)
 
 -- WHAT IS HANDED BACK

@@ -1,15 +1,16 @@
 -- `clash::choice_of` meets its contract. Assumes nothing.
 use borrow.Author.Needs.{needs}
+use mathlib.Core.Path.{_≡_, ap, _∙_}
 use Prim.Native.Nat.{_-_, _≤_}
 use lib.Seq.{take-all}
 use lib.ListN.{length, take}
 use native.Mathlib.Omega.{arith}
-use Rattle.clash.specs.ChoiceFlags.{Holds, holds-none, holds-more}
+use Rattle.clash.specs.ChoiceFlags.{flagsOf, flags-none, flags-more}
 use Rattle.clash.proofs.choice_of.Statement.{statement}
 use Rattle.clash.proofs.choice_of.Tie as tie
 
 abbrev Inv-loop : tie.InvT-loop
-Inv-loop list inside₀ k₀ inside k = (k ≤ length list) × Holds inside (take k list)
+Inv-loop list inside₀ k₀ inside k = (k ≤ length list) × (inside ≡ flagsOf (take k list))
 
 abbrev μ-loop : tie.MeasureT-loop
 μ-loop list inside₀ k₀ inside k = length list - k
@@ -18,7 +19,7 @@ nobody-inside-requires : tie.Need-nobody-inside-requires Inv-loop μ-loop
 nobody-inside-requires c κs = search needs
 
 loop-holds : tie.Need-loop-holds Inv-loop μ-loop
-loop-holds c = (search needs, rw (c .nobody-inside .ensures) holds-none)
+loop-holds c = (search needs, c .nobody-inside .ensures ∙ flags-none)
 
 shared-slice-read-position : tie.Need-shared-slice-read-position Inv-loop μ-loop
 shared-slice-read-position c = search needs
@@ -39,12 +40,10 @@ loop-again : tie.Need-loop-again Inv-loop μ-loop
 loop-again c =
     let list = c .before .before .before .before .before .args .list .now in
     let k = c .before .before .loop .k in
-    (search needs, holds-more (c .before .before .loop .inside) list k (omega arith) (omega (arith, c .shared-slice-known2 .given k)) (c .before .before .loop .inv .1))
+    (search needs, flags-more (c .before .before .loop .inside) list k (omega arith) (omega (arith, c .shared-slice-known2 .given k)) (c .before .before .loop .inv .1))
 
 returns : tie.Need-returns Inv-loop μ-loop
-returns c =
-    let h = c .before .loop .inv .1 in
-    rw (take-all (c .before .loop .k) (c .before .before .before .before .args .list .now) (omega arith)) at h
+returns c = c .before .loop .inv .1 ∙ ap flagsOf (take-all (c .before .loop .k) (c .before .before .before .before .args .list .now) (omega arith))
 
 pub choice-of-spec : {M : Type 1} → statement M
 choice-of-spec =

@@ -2,7 +2,7 @@
 use borrow.Author.Needs.{needs}
 use mathlib.Core.Path.{_∙_}
 use native.Mathlib.Omega.{arith}
-use Rattle.clash.specs.ChoiceFlags.{first-clash-same}
+use Rattle.clash.specs.ChoiceFlags.{flags-hold, first-clash-same}
 use Rattle.clash.proofs.first_clash.Statement.{statement}
 use Rattle.clash.proofs.first_clash.Tie as tie
 
@@ -15,8 +15,7 @@ first-clash-of-requires c κs = search needs
 returns : tie.Need-returns
 returns c =
     let known = c .before .before .before .before .shared-slice-known .given 9 in
-    let h = c .before .before .choice-of .ensures in
-    c .first-clash-of .ensures ∙ first-clash-same _ _ _ (λ i l. h .at i (omega (arith, known)))
+    c .first-clash-of .ensures ∙ first-clash-same _ _ _ (λ i l. flags-hold _ _ (c .before .before .choice-of .ensures) i (omega (arith, known)))
 
 pub first-clash-spec : {M : Type 1} → statement M
 first-clash-spec = tie.close (tie.spec choice-of-requires first-clash-of-requires returns)
