@@ -1,3 +1,4 @@
+-- `orders::questions::buffers_no` meets its contract. Assumes nothing.
 use borrow.Author.Needs.{needs}
 use borrow.Author.Tests.{le-leb, lt-leb}
 use mathlib.Core.Path.{refl}
@@ -31,13 +32,15 @@ returns-2 : tie.Need-returns-2
 unfolding buffersNo
 returns-2 c =
     let enough : 12 + 8 * pointCount (c .before .before .before .before .args .sheet .now) ≤ c .before .before .before .before .args .room = omega arith in
-    ask-yes _ 21 _ _ (le-leb _ _ enough) (ask-no _ 22 _ (lt-leb _ _ (c .if2 .taken)))
+    let few : c .before .before .before .before .args .cells < 32768 = omega (arith, c .if2 .taken) in
+    ask-yes _ 21 _ _ (le-leb _ _ enough) (ask-no _ 22 _ (lt-leb _ _ few))
 
 returns-3 : tie.Need-returns-3
 unfolding buffersNo
 returns-3 c =
     let enough : 12 + 8 * pointCount (c .before .before .before .before .args .sheet .now) ≤ c .before .before .before .before .args .room = omega arith in
-    ask-yes _ 21 _ _ (le-leb _ _ enough) (ask-yes _ 22 _ _ (le-leb _ _ (c .if2 .left)) refl)
+    let many : 32768 ≤ c .before .before .before .before .args .cells = omega (arith, c .if2 .left) in
+    ask-yes _ 21 _ _ (le-leb _ _ enough) (ask-yes _ 22 _ _ (le-leb _ _ many) refl)
 
 pub buffers-no-spec : {M : Type 1} → statement M
 buffers-no-spec =
