@@ -30,7 +30,7 @@ dec-unreached H p b u =
     (dec-every _ _ (H .n) (λ y. dec-not (dec-and (dec-lt p y) (dec-and (dec-lt y b) (dec-reaches H y p)))))
 
 -- THE POINT OF RANK t IS SAFE in the state (a, b, q): it may be inside, and its label reaches over no point between it and b. (The state is
--- one of the recurrence: q is 0, or reaches over a; and a, if it is a point, is right of the points of rank t.)
+-- one that the recurrence meets: q is 0, or its label reaches over a; and a, if it is a point, is right of the point of rank t.)
 pub record Safe (H : Heights) (t a b q : ℕ) : Type 0 where
   pub ranked : t < H .n
   pub within : Between a (H .atRank t) b

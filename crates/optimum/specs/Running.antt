@@ -7,7 +7,7 @@ use native.Mathlib.Numerals.{add-one}
 use native.Mathlib.Omega.{arith}
 use borrow.Author.Tests.{not-true, not-false, lt-ltb, le-ltb}
 use Rattle.labeling.specs.Tests.{not-both, same, and-left, and-right}
-use Rattle.labeling.specs.Recurrence.{Heights, between, value, plus, join, inValue, takesIn}
+use Rattle.labeling.specs.Recurrence.{Heights, Sorted, between, value, plus, join, inValue, takesIn}
 use Rattle.labeling.specs.RecurrenceTests.{less, dec-false, Between, dec-between, value-zero, value-skip, value-step}
 use Rattle.labeling.specs.Joins.{plus-most, join-none, join-first, join-last, join-less, join-rises, join-max-high, join-plus}
 use Rattle.labeling.specs.Recovered.{TakesDown}
@@ -156,13 +156,13 @@ module _ {H : Heights} {x : State} {t : ℕ} {r : Run} (e : slabHas x (H .atRank
       record { value = omega (arith, k .comes, both, i, next-is); below = next-below; cut = λ l. next-cut l (omega (arith, i)) }
 
 -- It is safe: the loop goes on without what it gives outside.
-running-safe : {H : Heights} {x : State} {t : ℕ} {r : Run} → slabHas x (H .atRank t) ≡ true → Running H x (suc t) r → slabGood H t x ≡ true → slabOut H t x ≤ slabBelow H t x → slabBelow H (suc t) x ≡ slabIn H t x
+running-safe : {H : Heights} → Sorted H → {x : State} {t : ℕ} {r : Run} → Safe H t (x .lower) (x .upper) (x .reaching) → Running H x (suc t) r
     → (w : ℕ) → w ≡ H .weight (H .atRank t) → 1 ≤ w → w < 1125899906842624 → Running H x t (record { best = r .best; acc = r .acc + w; ended = false })
 unfolding takesIn inValue
-running-safe {H} {x} {t} {r} e k g s v w h heavy small =
-    let i = in-good H t x (r .acc) w (k .some) g h in
-    let whole : join (r .acc) (slabBelow H (suc t) x) ≡ join (r .acc + w) (slabBelow H t x) = ap (join (r .acc)) v ∙ i in
-    let weighs : slabIn H t x ≡ plus w (slabBelow H t x) = rw (g, h) in
+running-safe {H} L {x} {t} {r} is k w h heavy small =
+    let no-more : slabOut H t x ≤ slabBelow H t x = safe-outside L is in
+    let weighs : slabIn H t x ≡ plus w (slabBelow H t x) = rw (is .good, h) in
+    let whole : join (r .acc) (slabBelow H (suc t) x) ≡ join (r .acc + w) (slabBelow H t x) = ap (join (r .acc)) (safe-inside L is) ∙ in-good H t x (r .acc) w (k .some) (is .good) h in
     record {
       below = omega (arith, k .below);
       some = omega (arith, k .some);
@@ -171,7 +171,7 @@ running-safe {H} {x} {t} {r} e k g s v w h heavy small =
       cut-below = k .cut-below;
       inside = λ l. takes-next
           (λ z. lt-ltb (slabOut H t x) (slabIn H t x) (less 0 (slabBelow H t x)
-          (λ n. omega (arith, weighs, s, plus-most w (slabBelow H t x) heavy n))
+          (λ n. omega (arith, plus-most w (slabBelow H t x) heavy n))
           (λ n. let none : slabBelow H t x ≡ 0 = omega arith in absurd (omega (arith, ap (join (r .acc + w)) none, join-none (r .acc + w))))))
           (k .inside (omega (arith, whole)));
       outside = λ l u. k .outside l (omega (arith, whole));
@@ -204,7 +204,6 @@ module _ {s : List ℕ} {x : State} {t p : ℕ} {r : Run} {table table′ : List
       let H = heightsOf s in
       let L = o .0 .ready .packed .sorted in
       let proper = o .0 .ready .proper in
-      let good-is : slabGood H t x ≡ true = sym good-here ∙ and-left g _ (sym d ∙ e) in
       let none = dec-unreached H p (x .upper) (proper .upper) .is (and-right g _ (sym d ∙ e)) in
       let is : Safe H t (x .lower) (x .upper) (x .reaching) = record {
         ranked = omega (arith, o .1, L .rank-below p (o .0 .point));
@@ -212,11 +211,11 @@ module _ {s : List ℕ} {x : State} {t p : ℕ} {r : Run} {table table′ : List
         upper = proper .upper;
         over = reaches-fitting H (x .lower) (x .reaching) (proper .fits);
         lower-rank = λ l. below-lower;
-        good = good-is;
+        good = sym good-here ∙ and-left g _ (sym d ∙ e);
         unreached = rw point none;
       } in
       record {
-        on = λ _. running-safe here k good-is (safe-outside L is) (safe-inside L is) w (v ∙ rw point) (omega (arith, v, o .0 .ready .packed .heavy p (o .0 .point))) (open-weight (o .0) w v);
+        on = λ _. running-safe L is k w (v ∙ rw point) (omega (arith, v, o .0 .ready .packed .heavy p (o .0 .point))) (open-weight (o .0) w v);
         off = λ z. absurd (not-both z refl);
         kept = m;
       }
