@@ -2,6 +2,9 @@
 use borrow.Author.Needs.{needs}
 use borrow.Author.Tests.{le-leb, lt-leb, eq-eqb, ne-eqb, not-true, not-false}
 use lib.Dec.{leb}
+use lib.ListN.{length}
+use native.Mathlib.Omega.{arith}
+use Prim.Native.Nat.{_<_}
 use mathlib.Core.Bool.{_&&_}
 use mathlib.Core.Path.{sym, ap, ap₂, _∙_}
 use Rattle.format.specs.Sheet.{upTo, questionsNo}
@@ -11,7 +14,9 @@ use Rattle.format.proofs.questions_no.Tie as tie
 
 returns : tie.Need-returns
 unfolding questionsNo
-returns c = ask-no _ 11 _ (lt-leb _ _ (c .if1 .taken))
+returns c =
+    let few : length (c .before .before .args .sheet .now) < 10 = omega (arith, c .if1 .taken) in
+    ask-no _ 11 _ (lt-leb _ _ few)
 
 byte-at-requires : tie.Need-byte-at-requires
 byte-at-requires c κs = search needs
@@ -61,11 +66,12 @@ point-count-requires c κs = search needs
 returns-5 : tie.Need-returns-5
 unfolding questionsNo
 returns-5 c =
+    let many : 32 < c .before .point-count .result = omega (arith, c .if5 .taken) in
     ask-yes _ 11 _ _ (le-leb _ _ (c .before .before .before .before .before .before .before .before .before .before .before .before .if1 .left))
     (ask-yes _ 12 _ _ (eq-eqb _ _ (sym (c .before .before .before .before .before .before .before .before .before .before .before .byte-at .ensures) ∙ c .before .before .before .before .before .before .before .before .before .before .if2 .left))
     (ask-yes _ 13 _ _ (on _ _ (c .before .before .before .before .before .before .before .both-up-to .ensures ∙ ap₂ (λ x y. upTo 4096 x && upTo 4096 y) (c .before .before .before .before .before .before .before .before .before .map-width .ensures) (c .before .before .before .before .before .before .before .before .map-height .ensures)) (c .before .before .before .before .before .before .if3 .left))
     (ask-yes _ 14 _ _ (on _ _ (c .before .before .before .both-up-to2 .ensures ∙ ap₂ (λ x y. upTo 256 x && upTo 256 y) (c .before .before .before .before .before .label-width .ensures) (c .before .before .before .before .label-height .ensures)) (c .before .before .if4 .left))
-    (ask-no _ 15 _ (ap (λ x. leb x 32) (sym (c .before .point-count .ensures)) ∙ lt-leb _ _ (c .if5 .taken))))))
+    (ask-no _ 15 _ (ap (λ x. leb x 32) (sym (c .before .point-count .ensures)) ∙ lt-leb _ _ many)))))
 
 returns-6 : tie.Need-returns-6
 unfolding questionsNo
