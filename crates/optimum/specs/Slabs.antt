@@ -1,5 +1,5 @@
--- A slab is a state (a, b, q) of the recurrence: its lower end is a, its upper end b, and q the label that reaches over its lower end.
--- The recurrence's functions of a slab. Assumes nothing.
+-- A slab is a state (a, b, q) of the recurrence: its lower end is a, its upper end b, and q the point whose label reaches over its lower
+-- end, or 0. The recurrence's functions of a slab. Assumes nothing.
 use mathlib.Core.Path.{_≡_}
 use mathlib.Core.Bool.{Bool, true, _||_}
 use Prim.Native.Nat.{ℕ, suc, _≤_, _<_, min}
