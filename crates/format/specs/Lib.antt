@@ -4,6 +4,7 @@ pub mod Asking
 pub mod Plate
 pub mod Bytes
 pub mod Padded
+pub mod Written
 pub mod Answers
 pub mod Accepted
 pub mod Start

@@ -15,6 +15,9 @@ use reader::next_point;
 use reader::reader_at;
 
 pub mod reader;
+mod writing;
+
+pub use writing::copy_to;
 
 // What check_sheet answers: the sheet is accepted, or refused with the number of its first no.
 pub enum SheetAnswer {

@@ -14,7 +14,6 @@ pub mod Recovery
 pub mod SameHeights
 pub mod Limits
 pub mod Prepared
-pub mod Written
 pub mod Outside
 pub mod Lists
 pub mod ByPosition

@@ -10,7 +10,7 @@ use Rattle.labeling.specs.Points.{Choice}
 use Rattle.labeling.specs.Tests.{decide}
 use Rattle.format.specs.Plate.{insideBelow}
 use Rattle.format.specs.Padded.{padded, drop-zeros}
-use Rattle.optimum.specs.Written.{written, written-none, written-more, written-first}
+use Rattle.format.specs.Written.{written, written-none, written-more, written-first}
 use Rattle.optimum.specs.Split.{outsideDown, Listed}
 
 -- INSIDE

@@ -9,7 +9,7 @@ use Rattle.labeling.specs.Points.{Points, Choice}
 use Rattle.labeling.specs.Recurrence.{Point}
 use Rattle.labeling.specs.Positions.{Arranged}
 use Rattle.orders.specs.Arrays.{heightsOf, positionAt}
-use Rattle.optimum.specs.Written.{written}
+use Rattle.format.specs.Written.{written}
 use native.Mathlib.Omega.{arith}
 
 -- The choice that marks by position stand for: 1 is inside.

@@ -5,7 +5,7 @@ ghost use lib.ListN.{length, getD, replicate};
 ghost use Rattle.labeling.specs.Recurrence.{Point};
 ghost use Rattle.format.specs.Plate.{insideBelow};
 ghost use Rattle.orders.specs.Arrays.{heightsOf, positionAt};
-ghost use Rattle.optimum.specs.Written.{written};
+ghost use Rattle.format.specs.Written.{written};
 ghost use Rattle.optimum.specs.Split.{marked, outsidePositions, Numbered};
 use crate::points::point_count;
 use orders::PointArray;

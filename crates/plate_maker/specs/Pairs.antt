@@ -13,7 +13,7 @@ use Rattle.labeling.specs.Margin.{next-most}
 use Rattle.format.specs.Sheet.{pointsOf}
 use Rattle.format.specs.Plate.{pairs}
 use Rattle.format.specs.PlateLength.{placed-length, pairs-length}
-use Rattle.optimum.specs.Written.{written, written-none, written-more, written-twice, written-first}
+use Rattle.format.specs.Written.{written, written-none, written-more, written-twice, written-first}
 use Rattle.plate_maker.specs.Writing.{sectionOf, plateOfLists, marginAfter, placedAfter, SoFar}
 
 -- MARGIN COLUMNS

@@ -8,7 +8,7 @@ use lib.ListN.{length}
 use Rattle.labeling.specs.Points.{Points, Placed, nextMargin, placedFrom, placed}
 use Rattle.format.specs.Sheet.{pointsOf}
 use Rattle.format.specs.Plate.{pairs}
-use Rattle.optimum.specs.Written.{written}
+use Rattle.format.specs.Written.{written}
 
 -- The outside section of a list of outside positions.
 unfoldable pub sectionOf : Points → List ℕ → List ℕ

@@ -7,10 +7,11 @@ ghost use Rattle.labeling.specs.Points.{placed};
 ghost use Rattle.format.specs.Sheet.{sheetNo, pointCount, pointsOf};
 ghost use Rattle.format.specs.Plate.{pairs};
 ghost use Rattle.optimum.specs.Choosing.{BestSplit};
-ghost use Rattle.optimum.specs.Written.{written};
+ghost use Rattle.format.specs.Written.{written};
 ghost use Rattle.format.specs.PlateLength.{bestLength};
 ghost use Rattle.plate_maker.specs.Making.{BestOutput};
 ghost use Rattle.plate_maker.specs.Writing.{sectionOf, marginAfter, plateOfLists};
+use format::copy_to;
 use optimum::BestChoice;
 
 // The margin column of the outside position that comes next after `count` others, the last of them `previous` in the margin column
@@ -23,18 +24,6 @@ fn margin_after(sheet: &[u8], count: usize, previous: u8, margin: u8, position: 
         return 0;
     }
     format::next_margin(sheet, previous, margin, position) as u8
-}
-
-// Copies bytes into the output, from the place `at` on.
-fn copy_to(bytes: &[u8], output: &mut [u8], at: usize)
-    requires { ⌜ at + length (now bytes) ≤ length (now output) ⌝ }
-    ensures { λ _. ⌜ now (output .exit) ≡ written (now (output .entry)) at (now (bytes .entry)) ⌝ }
-{
-    let mut i = 0;
-    while i < bytes.len() {
-        output[at + i] = bytes[i];
-        i += 1;
-    }
 }
 
 // Writes the inside section of a list of positions from the place `at` on, and gives the place after it.

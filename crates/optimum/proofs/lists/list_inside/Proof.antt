@@ -7,7 +7,7 @@ use lib.ListN.{length, length-set}
 use native.Mathlib.Omega.{arith}
 use Rattle.labeling.specs.Points.{Choice}
 use Rattle.format.specs.Plate.{insideBelow}
-use Rattle.optimum.specs.Written.{written, written-none}
+use Rattle.format.specs.Written.{written, written-none}
 use Rattle.optimum.specs.Split.{marked}
 use Rattle.optimum.specs.Lists.{inside-more, inside-same}
 use Rattle.optimum.proofs.lists.list_inside.Statement.{statement}

@@ -1,9 +1,10 @@
 -- `plate_maker::writing::write_inside` meets its contract: the positions, and then their count before them. Assumes nothing.
 use borrow.Author.Needs.{needs}
 use mathlib.Core.Path.{refl}
+use Prim.Native.Nat.{_+_}
 use lib.ListN.{length}
 use native.Mathlib.Omega.{arith}
-use Rattle.optimum.specs.Written.{written-front}
+use Rattle.format.specs.Written.{written-front, written-fits}
 use Rattle.plate_maker.proofs.writing.write_inside.Statement.{statement}
 use Rattle.plate_maker.proofs.writing.write_inside.Tie as tie
 
@@ -31,7 +32,7 @@ same-length c = search needs
 returns : tie.Need-returns
 returns c =
     let a = c .before .before .before .before .before .before .args in
-    (refl, rw (c .before .before .copy-to .ensures) (written-front (a .output .now) (a .at) (a .list .now) (length (a .list .now)) (omega arith)))
+    (refl, rw (c .before .before .copy-to .ensures, written-fits (a .output .now) (a .at + 1) (a .list .now) (omega arith)) (written-front (a .output .now) (a .at) (a .list .now) (length (a .list .now)) (omega arith)))
 
 pub write-inside-spec : {M : Type 1} → statement M
 write-inside-spec =

@@ -6,7 +6,7 @@ use Prim.Native.Nat.{ℕ, _+_}
 use lib.ListN.{length}
 use native.Mathlib.Omega.{arith}
 use Rattle.format.specs.Sheet.{pointsOf}
-use Rattle.optimum.specs.Written.{written}
+use Rattle.format.specs.Written.{written, written-fits}
 use Rattle.plate_maker.specs.Writing.{sectionOf}
 use Rattle.plate_maker.specs.Pairs.{lists-length, plate-written}
 use Rattle.plate_maker.proofs.writing.write_plate.Statement.{statement}
@@ -31,7 +31,7 @@ returns c =
     let I : List ℕ = a .inside .now in
     let O : List ℕ = a .outside .now in
     let d : List ℕ = a .output .now in
-    let copied : c .before .before .before .before .before .before .before .before .before .before .copy-to .last .1 .0 ≡ written d 0 s = c .before .before .before .before .before .before .before .before .before .before .copy-to .ensures in
+    let copied : c .before .before .before .before .before .before .before .before .before .before .copy-to .last .1 .0 ≡ written d 0 s = c .before .before .before .before .before .before .before .before .before .before .copy-to .ensures ∙ written-fits d 0 s (omega arith) in
     let at : c .before .before .before .before .before .before .write-inside .result ≡ length s + 1 + length I = c .before .before .before .before .before .before .write-inside .ensures .0 in
     let one : c .before .before .before .before .before .before .write-inside .last .1 .0 ≡ written (written d 0 s) (length s) (length I ∷ I) = rw copied at (c .before .before .before .before .before .before .write-inside .ensures .1) in
     let two : c .before .before .write-outside .last .1 .1 .0 ≡ written (written (written d 0 s) (length s) (length I ∷ I)) (length s + 1 + length I) (sectionOf (pointsOf s) O) = rw (one, at) at (c .before .before .write-outside .ensures .1) in

@@ -1,12 +1,12 @@
--- `plate_maker::writing::copy_to` meets its contract: after i turns the first i bytes are copied. Assumes nothing.
+-- `format::writing::copy` meets its contract: after i turns the first i bytes are copied. Assumes nothing.
 use borrow.Author.Needs.{needs}
 use mathlib.Core.Path.{_≡_}
 use Prim.Native.Nat.{_≤_, _-_}
 use lib.ListN.{length, take, length-set}
 use native.Mathlib.Omega.{arith}
-use Rattle.optimum.specs.Written.{written, written-none, copied-more, copied-whole}
-use Rattle.plate_maker.proofs.writing.copy_to.Statement.{statement}
-use Rattle.plate_maker.proofs.writing.copy_to.Tie as tie
+use Rattle.format.specs.Written.{written, written-none, copied-more, copied-whole}
+use Rattle.format.proofs.writing.copy.Statement.{statement}
+use Rattle.format.proofs.writing.copy.Tie as tie
 
 abbrev Inv-loop : tie.InvT-loop
 Inv-loop bytes output₀ at i₀ output i = (i ≤ length bytes) × (length output ≡ length output₀) × (output ≡ written output₀ at (take i bytes))
@@ -47,8 +47,8 @@ returns c =
     let l = c .before .loop in
     copied-whole (a .output .now) (a .at) (a .bytes .now) (l .output) (l .i) (omega arith) (l .inv .2)
 
-pub copy-to-spec : {M : Type 1} → statement M
-copy-to-spec =
+pub copy-spec : {M : Type 1} → statement M
+copy-spec =
     tie.close
     (tie.spec
     Inv-loop
