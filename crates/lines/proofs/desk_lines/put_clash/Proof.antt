@@ -1,0 +1,45 @@
+-- `lines::desk_lines::put_clash` meets its contract. Assumes nothing.
+use borrow.Author.Needs.{needs}
+use Prim.Native.Nat.{_+_, _≤_}
+use lib.ListN.{length}
+use native.Mathlib.Omega.{arith}
+use Rattle.lines.specs.DeskLines.{clashText}
+use Rattle.lines.specs.Writing.{put-more}
+use Rattle.lines.proofs.desk_lines.put_clash.Statement.{statement}
+use Rattle.lines.proofs.desk_lines.put_clash.Tie as tie
+
+slice-aggregate-put-word : tie.Need-slice-aggregate-put-word
+slice-aggregate-put-word c = search needs
+
+put-word-requires : tie.Need-put-word-requires
+put-word-requires c κs = search needs
+
+put-number-requires : tie.Need-put-number-requires
+put-number-requires c κs = search needs
+
+put-number-requires-2 : tie.Need-put-number-requires-2
+put-number-requires-2 c κs = search needs
+
+put-kind-requires : tie.Need-put-kind-requires
+put-kind-requires c κs = search needs
+
+same-length : tie.Need-same-length
+same-length c = search needs
+
+returns : tie.Need-returns
+unfolding clashText
+returns c =
+    let room : c .before .before .before .before .before .before .before .before .before .before .before .before .before .before .before .before .before .before .args .at + 25 ≤ length (c .before .before .before .before .before .before .before .before .before .before .before .before .before .before .before .before .before .before .args .text .now) = c .before .before .before .before .before .before .before .before .before .before .before .before .before .before .before .before .before .before .pre in
+    put-more (omega arith) (put-more (omega arith) (put-more (omega arith) (c .before .before .before .before .before .before .before .before .before .before .before .before .before .before .put-word .ensures) (c .before .before .before .before .before .before .before .before .before .before .put-number .ensures)) (c .before .before .before .before .before .before .put-number2 .ensures)) (c .before .before .put-kind .ensures)
+
+pub put-clash-spec : {M : Type 1} → statement M
+put-clash-spec =
+    tie.close
+    (tie.spec
+    slice-aggregate-put-word
+    put-word-requires
+    put-number-requires
+    put-number-requires-2
+    put-kind-requires
+    same-length
+    returns)

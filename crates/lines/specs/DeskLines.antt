@@ -1,0 +1,54 @@
+-- The lines of a refusal and of the desk's answers: `refused K`, `loaded N BEST`, `NUMBER valid COUNT SHORTFALL` and
+-- `NUMBER clash FIRST SECOND KIND`. Assumes nothing.
+use mathlib.Core.List.{List, _++_}
+use Prim.Native.Nat.{ℕ}
+use Rattle.format.specs.Sheet.{pointCount}
+use Rattle.clash.specs.declared.ClashKind.{ClashKind}
+use Rattle.clash.specs.declared.ClashKind.the-variants.{Labels, LabelAndLeader}
+use Rattle.desk.specs.declared.Desk.{Desk}
+use Rattle.desk.specs.declared.LoadAnswer.{LoadAnswer}
+use Rattle.desk.specs.declared.LoadAnswer.the-variants.{Accepted, Refused}
+use Rattle.desk.specs.declared.MarkAnswer.{MarkAnswer}
+use Rattle.desk.specs.declared.MarkAnswer.the-variants.{Marked, Refused as RefusedMark}
+use Rattle.desk.specs.declared.Verdict.{Verdict}
+use Rattle.desk.specs.declared.Verdict.the-variants.{Valid, Clash}
+use Rattle.lines.specs.Text.{ascii, decimal, spaced}
+
+-- "A refusal prints one line, as `refused 16`."
+unfoldable pub refusalLine : ℕ → List ℕ
+refusalLine k = ascii "refused" ++ spaced k ++ ascii "\n"
+
+-- The line of an accepted sheet: the point count and the best count of the desk that has it.
+unfoldable pub loadedLine : Desk → List ℕ
+loadedLine d = ascii "loaded" ++ spaced (pointCount (d .sheet)) ++ spaced (d .best) ++ ascii "\n"
+
+-- The line of a load with this answer, which gave the desk d.
+abbrev pub loadLine : LoadAnswer → Desk → List ℕ
+loadLine Accepted d = loadedLine d
+loadLine (Refused k) d = refusalLine k
+
+-- "whether two labels met or a label met a leader"
+abbrev pub kindWord : ClashKind → List ℕ
+kindWord Labels = ascii " labels"
+kindWord LabelAndLeader = ascii " leader"
+
+-- "valid, with the list's count and its shortfall"
+unfoldable pub validText : ℕ → ℕ → List ℕ
+validText count shortfall = ascii " valid" ++ spaced count ++ spaced shortfall
+
+-- "a clash, with two positions and whether two labels met or a label met a leader"
+unfoldable pub clashText : ℕ → ℕ → ClashKind → List ℕ
+clashText first second kind = ascii " clash" ++ spaced first ++ spaced second ++ kindWord kind
+
+abbrev pub verdictText : Verdict → List ℕ
+verdictText (Valid count shortfall) = validText count shortfall
+verdictText (Clash first second kind) = clashText first second kind
+
+-- The line of a marked list: "The answer carries the next number and a verdict".
+unfoldable pub markedLine : ℕ → Verdict → List ℕ
+markedLine number verdict = decimal number ++ verdictText verdict ++ ascii "\n"
+
+-- The line of a mark with this answer.
+abbrev pub markLine : MarkAnswer → List ℕ
+markLine (Marked number verdict) = markedLine number verdict
+markLine (RefusedMark k) = refusalLine k

@@ -1,0 +1,5 @@
+pub mod Text
+pub mod Decimal
+pub mod Listing
+pub mod DeskLines
+pub mod Writing

@@ -1,0 +1,85 @@
+// The line of a refusal, and of the desk's answers.
+use crate::text::put_decimal;
+use crate::text::put_end;
+use crate::text::put_number;
+use crate::text::put_word;
+use clash::ClashKind;
+use desk::Desk;
+use desk::Verdict;
+ghost use Prim.Native.Nat.{_+_, _≤_};
+ghost use lib.ListN.{length};
+ghost use Rattle.lines.specs.DeskLines.{refusalLine, loadedLine, kindWord, validText, clashText, verdictText, markedLine};
+ghost use Rattle.lines.specs.Writing.{Put};
+
+pub(crate) fn put_refusal(text: &mut [u8], number: u8) -> usize
+    requires { ⌜ 14 ≤ length (now text) ⌝ }
+    ensures { λ r. ⌜ Put 14 (now (text .entry)) 0 (refusalLine number) r (now (text .exit)) ⌝ }
+{
+    let word = put_word(text, 0, b"refused");
+    let refused = put_number(text, word, number as u16);
+    put_end(text, refused)
+}
+
+// Point count and best count of the desk's sheet.
+pub(crate) fn put_loaded(text: &mut [u8], desk: Desk) -> usize
+    requires { ⌜ 19 ≤ length (now text) ⌝ }
+    ensures { λ r. ⌜ Put 19 (now (text .entry)) 0 (loadedLine desk) r (now (text .exit)) ⌝ }
+{
+    let sheet = desk.sheet;
+    let word = put_word(text, 0, b"loaded");
+    let points = put_number(text, word, format::point_count(&sheet) as u16);
+    let best = put_number(text, points, desk.best);
+    put_end(text, best)
+}
+
+fn put_kind(text: &mut [u8], at: usize, kind: ClashKind) -> usize
+    requires { ⌜ at + 7 ≤ length (now text) ⌝ }
+    ensures { λ r. ⌜ Put 7 (now (text .entry)) at (kindWord kind) r (now (text .exit)) ⌝ }
+{
+    match kind {
+        ClashKind::Labels => put_word(text, at, b" labels"),
+        ClashKind::LabelAndLeader => put_word(text, at, b" leader"),
+    }
+}
+
+fn put_valid(text: &mut [u8], at: usize, count: u16, shortfall: u16) -> usize
+    requires { ⌜ at + 25 ≤ length (now text) ⌝ }
+    ensures { λ r. ⌜ Put 25 (now (text .entry)) at (validText count shortfall) r (now (text .exit)) ⌝ }
+{
+    let word = put_word(text, at, b" valid");
+    let counted = put_number(text, word, count);
+    put_number(text, counted, shortfall)
+}
+
+fn put_clash(text: &mut [u8], at: usize, first: u8, second: u8, kind: ClashKind) -> usize
+    requires { ⌜ at + 25 ≤ length (now text) ⌝ }
+    ensures { λ r. ⌜ Put 25 (now (text .entry)) at (clashText first second kind) r (now (text .exit)) ⌝ }
+{
+    let word = put_word(text, at, b" clash");
+    let one = put_number(text, word, first as u16);
+    let both = put_number(text, one, second as u16);
+    put_kind(text, both, kind)
+}
+
+fn put_verdict(text: &mut [u8], at: usize, verdict: Verdict) -> usize
+    requires { ⌜ at + 25 ≤ length (now text) ⌝ }
+    ensures { λ r. ⌜ Put 25 (now (text .entry)) at (verdictText verdict) r (now (text .exit)) ⌝ }
+{
+    match verdict {
+        Verdict::Valid { count, shortfall } => put_valid(text, at, count, shortfall),
+        Verdict::Clash {
+            first,
+            second,
+            kind,
+        } => put_clash(text, at, first, second, kind),
+    }
+}
+
+pub(crate) fn put_marked(text: &mut [u8], number: u16, verdict: Verdict) -> usize
+    requires { ⌜ 31 ≤ length (now text) ⌝ }
+    ensures { λ r. ⌜ Put 31 (now (text .entry)) 0 (markedLine number verdict) r (now (text .exit)) ⌝ }
+{
+    let numbered = put_decimal(text, 0, number);
+    let judged = put_verdict(text, numbered, verdict);
+    put_end(text, judged)
+}

@@ -1,0 +1,88 @@
+// What the programs print, as bytes in a lent buffer. Each call answers the length of its text; or the buffer is too short for it, nothing
+// is written, and the answer is 0.
+use desk::Desk;
+use desk::LoadAnswer;
+use desk::MarkAnswer;
+use desk::Verdict;
+use desk_lines::put_loaded;
+use desk_lines::put_marked;
+use desk_lines::put_refusal;
+use plate_lines::put_listing;
+use text::fit;
+ghost use mathlib.Core.Path.{_≡_};
+ghost use lib.ListN.{length};
+ghost use Rattle.lines.specs.Listing.{listingOf};
+ghost use Rattle.lines.specs.DeskLines.{refusalLine, loadedLine, loadLine, markedLine, markLine};
+ghost use Rattle.lines.specs.Writing.{Prints};
+
+mod desk_lines;
+mod plate_lines;
+mod text;
+
+// Room for the longest listing: line one has at most 24 bytes, and each of at most 255 points at most 16.
+fn listing_room() -> [u8; 4104]
+    ensures { λ r. ⌜ 4104 ≡ length r ⌝ }
+{
+    [0; 4104]
+}
+
+// Room for the longest line of the desk.
+fn line_room() -> [u8; 31]
+    ensures { λ r. ⌜ 31 ≡ length r ⌝ }
+{
+    [0; 31]
+}
+
+// The listing of a plate: points, inside count and margin columns used; then each point in sheet order.
+pub fn listing(plate: &[u8], text: &mut [u8]) -> usize
+    ensures { λ r. ⌜ Prints (listingOf (now (plate .entry))) (now (text .entry)) r (now (text .exit)) ⌝ }
+{
+    let mut room = listing_room();
+    let length = put_listing(&mut room, plate);
+    fit(&room[..length], text)
+}
+
+// The line of a refusal.
+pub fn refusal_line(number: u8, text: &mut [u8]) -> usize
+    ensures { λ r. ⌜ Prints (refusalLine number) (now (text .entry)) r (now (text .exit)) ⌝ }
+{
+    let mut room = line_room();
+    let length = put_refusal(&mut room, number);
+    fit(&room[..length], text)
+}
+
+fn loaded_line(desk: Desk, text: &mut [u8]) -> usize
+    ensures { λ r. ⌜ Prints (loadedLine desk) (now (text .entry)) r (now (text .exit)) ⌝ }
+{
+    let mut room = line_room();
+    let length = put_loaded(&mut room, desk);
+    fit(&room[..length], text)
+}
+
+fn marked_line(number: u16, verdict: Verdict, text: &mut [u8]) -> usize
+    ensures { λ r. ⌜ Prints (markedLine number verdict) (now (text .entry)) r (now (text .exit)) ⌝ }
+{
+    let mut room = line_room();
+    let length = put_marked(&mut room, number, verdict);
+    fit(&room[..length], text)
+}
+
+// The line of a load with this answer, which gave the desk.
+pub fn load_line(answer: LoadAnswer, desk: Desk, text: &mut [u8]) -> usize
+    ensures { λ r. ⌜ Prints (loadLine answer desk) (now (text .entry)) r (now (text .exit)) ⌝ }
+{
+    match answer {
+        LoadAnswer::Accepted => loaded_line(desk, text),
+        LoadAnswer::Refused(number) => refusal_line(number, text),
+    }
+}
+
+// The line of a mark with this answer.
+pub fn mark_line(answer: MarkAnswer, text: &mut [u8]) -> usize
+    ensures { λ r. ⌜ Prints (markLine answer) (now (text .entry)) r (now (text .exit)) ⌝ }
+{
+    match answer {
+        MarkAnswer::Marked { number, verdict } => marked_line(number, verdict, text),
+        MarkAnswer::Refused(number) => refusal_line(number, text),
+    }
+}
