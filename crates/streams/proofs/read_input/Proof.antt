@@ -4,7 +4,7 @@ use mathlib.Core.Path.{_≡_}
 use Prim.Native.Nat.{_≤_, _-_}
 use lib.ListN.{length}
 use native.Mathlib.Omega.{arith}
-use Rattle.streams.proofs.Laws.{counts, read-within}
+use Rattle.streams.specs.Moves.{counts, read-counts}
 use Rattle.streams.proofs.read_input.Statement.{statement}
 use Rattle.streams.proofs.read_input.Tie as tie
 
@@ -39,13 +39,13 @@ returns : tie.Need-returns Inv-loop μ-loop
 returns c = counts _ _ (search needs)
 
 add-done : tie.Need-add-done Inv-loop μ-loop
-add-done c = omega (arith, read-within _ _ _ (c .before .before .before .before .before .before .read-some .ensures) (c .before .before .more .given .1))
+add-done c = omega (arith, read-counts _ _ _ (c .before .before .before .before .before .before .read-some .ensures) (c .before .before .more .given .1) .0)
 
 loop-less : tie.Need-loop-less Inv-loop μ-loop
 loop-less c = search needs
 
 loop-again : tie.Need-loop-again Inv-loop μ-loop
-loop-again c = omega (arith, read-within _ _ _ (c .before .before .before .before .before .before .read-some .ensures) (c .before .before .more .given .1))
+loop-again c = omega (arith, read-counts _ _ _ (c .before .before .before .before .before .before .read-some .ensures) (c .before .before .more .given .1) .0)
 
 enum-told : tie.Need-enum-told Inv-loop μ-loop
 enum-told c = search needs

@@ -3,7 +3,7 @@ use borrow.Author.Needs.{needs}
 use Prim.Native.Nat.{_≤_, _-_}
 use lib.ListN.{length}
 use native.Mathlib.Omega.{arith}
-use Rattle.streams.proofs.Laws.{written-within}
+use Rattle.streams.specs.Moves.{written-within}
 use Rattle.streams.proofs.write_output.Statement.{statement}
 use Rattle.streams.proofs.write_output.Tie as tie
 
