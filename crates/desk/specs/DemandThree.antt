@@ -9,7 +9,6 @@ use mathlib.Core.Option.{Option, none, some}
 use Prim.Native.Nat.{ℕ, suc, _+_, _*_, _-_, _≤_, _<_}
 use lib.Dec.{eqb}
 use lib.ListN.{length, take, drop, replicate, length-append, length-replicate}
-use lib.Seq.{take-at}
 use borrow.Author.Tests.{eqb-true, eqb-false, ne-eqb}
 use native.Mathlib.Omega.{arith}
 use Rattle.format.specs.Padded.{padded}
@@ -22,7 +21,7 @@ use Rattle.labeling.specs.Tests.{not-both, decide}
 use Rattle.format.specs.Sheet.{pointCount, pointsOf}
 use Rattle.format.specs.Accepted.{Accepted}
 use Rattle.format.specs.Plate.{choiceOf, insideBelow, plateOf}
-use Rattle.format.specs.PlateLength.{inside-length, bestLength, best-length}
+use Rattle.format.specs.PlateLength.{inside-length, bestLength}
 use Rattle.clash.specs.declared.ClashKind.{ClashKind}
 use Rattle.clash.specs.declared.Clash.{Clash}
 use Rattle.clash.specs.declared.Clash.the-variants.{None, Between}
@@ -31,6 +30,7 @@ use Rattle.clash.specs.ClashPixels.{Named, FirstClashRight, first-clash-right}
 use Rattle.plate_reader.specs.InsideList.{choice-of-list, inside-ascending}
 use Rattle.format.specs.MakingQuestions.{makingNo, none-making, workspaceAfter}
 use Rattle.plate_maker.specs.Making.{makeOutcome, makeOutcomeOf, BestOutput, Making}
+use Rattle.plate_maker.specs.MakingLaws.{made-start}
 use Rattle.plate_maker.specs.declared.MakeAnswer.{MakeAnswer}
 use Rattle.plate_maker.specs.declared.MakeAnswer.the-variants.{Made, Refused}
 use Rattle.desk.specs.Questions.{loadNo, positions, listCount, listNo, loadedListNo, markNo}
@@ -301,11 +301,7 @@ plate-made-best s p a m = by (m .answer) (m .made) (m .not-refused) (m .plate)
     by {o} {w} {o′} (Made r) m e q =
         let x : BestOutput s o o′ = m .output in
         let S = x .choice in
-        let z : 0 ≡ makingNo s (length o) (length w) = λ i. m .outcome i .number in
-        let n : r ≡ bestLength s = (λ i. m .outcome i .written) ∙ ap (λ k. makeOutcomeOf s k .written) (sym z) in
-        let g : length (plateOf s S) ≡ r = best-length s S a (x .best) ∙ sym n in
-        let h : p ≡ plateOf s S = q ∙ ap (take r) (x .plate) ∙ take-at (plateOf s S) (drop (length (plateOf s S)) o) r g in
-        rw (h, section-read s S a) (choice-best s a S (x .valid) (x .best))
+        rw (q, made-start m, section-read s S a) (choice-best s a S (x .valid) (x .best))
 
 -- from every accepted sheet some plate is made: a best choice exists, and its plate with zeroed buffers meets the promise
 pub some-plate : (s : List ℕ) → Accepted s → (p : List ℕ) × PlateMade s p
