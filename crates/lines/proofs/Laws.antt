@@ -4,13 +4,15 @@ use mathlib.Core.Bool.{Bool, true, false}
 use mathlib.Core.List.{List, [], _∷_}
 use Prim.Native.Nat.{ℕ, _+_, _*_, _/_, _%_, _≤_, _<_}
 use lib.ListN.{length}
+use borrow.Author.Tests.{le-leb, lt-leb}
+use native.Mathlib.Nat.{le-refl}
 use native.Mathlib.Numerals.{add-one}
 use native.Mathlib.Omega.{arith}
-use Rattle.format.specs.Written.{written-none}
+use Rattle.format.specs.Written.{writtenIfRoom, written-none}
 use Rattle.lines.specs.Text.{ascii, digit, decimal, spaced}
 use Rattle.lines.specs.Decimal.{decimal-step, decimal-length}
 use Rattle.lines.specs.Listing.{place, pointLine, pointLines}
-use Rattle.lines.specs.Writing.{Put, put-more, put-looser}
+use Rattle.lines.specs.Writing.{Prints, Put, put-more, put-looser}
 
 -- a number of 16 bits with a digit more
 pub put-longer : {o o₁ o₂ : List ℕ} {at m r : ℕ} (n : ℕ) → n < 65536 → 10 ≤ n → at + 5 ≤ length o → Put 5 o at (decimal (n / 10)) m o₁ → Put 1 o₁ m (digit (n % 10) ∷ []) r o₂ → Put 5 o at (decimal n) r o₂
@@ -37,3 +39,11 @@ point-more p i room x y = rw (add-one i) (put-looser (omega arith) (put-more (om
 pub point-none : (o p : List ℕ) (at : ℕ) → Put 0 o at (pointLines p 0) at o
 unfolding pointLines
 point-none o p at = record { fits = omega arith; next-is = omega arith; text-is = written-none o at }
+
+-- A LINE COPIED, if it fits
+module _ {l o o′ : List ℕ} (e : o′ ≡ writtenIfRoom o 0 l) where
+  pub copied-all : length l ≤ length o → Prints (length l) l o (length l) o′
+  copied-all h = record { fits = le-refl (length l); answer-is = rw (le-leb (length l) (length o) h); buffer-is = e }
+
+  pub copied-none : length o < length l → Prints (length l) l o 0 o′
+  copied-none h = record { fits = le-refl (length l); answer-is = rw (lt-leb (length l) (length o) h); buffer-is = e }

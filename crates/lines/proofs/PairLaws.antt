@@ -7,7 +7,7 @@ use lib.Seq.{drop-cons}
 use borrow.Author.Tests.{eq-eqb, ne-eqb}
 use native.Mathlib.Numerals.{add-one}
 use native.Mathlib.Omega.{arith}
-use Rattle.lines.specs.Listing.{margins, greatest, used, columnsUsed, marginOf}
+use Rattle.lines.specs.Listing.{margins, used, columnsUsed, marginOf}
 
 -- a pair, and the bytes after it
 pair : (l : List ℕ) (at : ℕ) → at + 1 < length l → drop at l ≡ getD l at 0 ∷ getD l (at + 1) 0 ∷ drop (at + 2) l

@@ -6,23 +6,41 @@ use Prim.Native.Nat.{ℕ, _+_, _≤_, _<_}
 use lib.Dec.{leb}
 use lib.ListN.{length, take, drop, set, length-append}
 use lib.Seq.{take-at}
-use borrow.Author.Tests.{le-leb, lt-leb}
-use native.Mathlib.Nat.{zero-add}
+use borrow.Author.Tests.{le-leb, leb-true}
+use native.Mathlib.Nat.{zero-add, le-trans}
 use native.Mathlib.Omega.{arith}
-use Rattle.format.specs.Written.{written, writtenIfRoom, written-none, written-more, written-twice, written-first}
+use Rattle.labeling.specs.Tests.{decide}
+use Rattle.format.specs.Written.{written, writtenIfRoom, written-fits, written-none, written-more, written-twice, written-first}
 
 -- THE PROMISE of a public call that writes the text l into the buffer o: it answers the text's length and the text stands at the start
 -- of the buffer, the bytes past it untouched; or the buffer is too short, nothing is written, and it answers 0. No text is empty, so 0
--- says nothing else.
-pub record Prints (l o : List ℕ) (answer : ℕ) (o′ : List ℕ) : Type 0 where
+-- says nothing else. A buffer of `room` bytes isn't too short.
+pub record Prints (room : ℕ) (l o : List ℕ) (answer : ℕ) (o′ : List ℕ) : Type 0 where
+  pub fits : length l ≤ room
   pub answer-is : answer ≡ cond (leb (length l) (length o)) (length l) 0
   pub buffer-is : o′ ≡ writtenIfRoom o 0 l
 
-pub prints-all : {l o o′ : List ℕ} → length l ≤ length o → o′ ≡ writtenIfRoom o 0 l → Prints l o (length l) o′
-prints-all {l} {o} {o′} h e = record { answer-is = rw (le-leb (length l) (length o) h); buffer-is = e }
+-- a text that fits is counted, and stands at the start
+prints-fitting : {room : ℕ} {l o o′ : List ℕ} {n : ℕ} → length l ≤ length o → Prints room l o n o′ → (n ≡ length l) × (o′ ≡ l ++ drop (length l) o)
+prints-fitting {room} {l} {o} {o′} {n} f x = (
+  x .answer-is ∙ ap (λ b. cond b (length l) 0) (le-leb (length l) (length o) f),
+  x .buffer-is ∙ written-fits o 0 l (rw (zero-add (length l)) f) ∙ written-first o l,
+)
 
-pub prints-none : {l o o′ : List ℕ} → length o < length l → o′ ≡ writtenIfRoom o 0 l → Prints l o 0 o′
-prints-none {l} {o} {o′} h e = record { answer-is = rw (lt-leb (length l) (length o) h); buffer-is = e }
+-- what a buffer with enough room has at its start is the text
+pub prints-whole : {room : ℕ} {l o o′ : List ℕ} {n : ℕ} → room ≤ length o → Prints room l o n o′ → take n o′ ≡ l
+prints-whole {room} {l} {o} {o′} {n} h x =
+    let e = prints-fitting (le-trans (x .fits) h) x in
+    ap (take n) (e .1) ∙ take-at l (drop (length l) o) n (sym (e .0))
+
+-- what is counted is there
+pub prints-within : {room : ℕ} {l o o′ : List ℕ} {n : ℕ} → Prints room l o n o′ → n ≤ length o′
+prints-within {room} {l} {o} {o′} {n} x =
+    decide (leb (length l) (length o))
+    (λ t.
+    let e = prints-fitting (leb-true (length l) (length o) t) x in
+    rw (e .1) (omega (arith, e .0, length-append l (drop (length l) o))))
+    (λ t. let e : n ≡ 0 = x .answer-is ∙ ap (λ b. cond b (length l) 0) t in omega arith)
 
 -- The text l, of at most `room` bytes, is put from the place `at` on, and `next` is the place after it.
 pub record Put (room : ℕ) (o : List ℕ) (at : ℕ) (l : List ℕ) (next : ℕ) (o′ : List ℕ) : Type 0 where
@@ -60,3 +78,12 @@ pub put-text : {a : ℕ} {o o₁ l : List ℕ} {n : ℕ} → Put a o 0 l n o₁ 
 put-text {a} {o} {o₁} {l} {n} x =
     let e : n ≡ length l = x .next-is ∙ zero-add (length l) in
     ap (take n) (x .text-is ∙ written-first o l) ∙ take-at l (drop (length l) o) n (sym e)
+
+-- a text that was put into a local buffer, and copied from there
+pub prints-put : {room : ℕ} {o o₁ l t t′ : List ℕ} {n r : ℕ} → Put room o 0 l n o₁ → Prints (length (take n o₁)) (take n o₁) t r t′ → Prints room l t r t′
+prints-put {room} {o} {o₁} {l} {t} {t′} {n} {r} x y =
+    let z : Prints (length l) l t r t′ = rw (put-text x) at y in
+    record { fits = x .fits; answer-is = z .answer-is; buffer-is = z .buffer-is }
+
+pub prints-looser : {a b : ℕ} {l o o′ : List ℕ} {n : ℕ} → a ≤ b → Prints a l o n o′ → Prints b l o n o′
+prints-looser h x = record { fits = le-trans (x .fits) h; answer-is = x .answer-is; buffer-is = x .buffer-is }

@@ -19,23 +19,27 @@ mod desk_lines;
 mod plate_lines;
 mod text;
 
-// Room for the longest listing: line one has at most 24 bytes, and each of at most 255 points at most 16.
-fn listing_room() -> [u8; 4104]
+// Room for every listing: line one has at most 24 bytes, and each of at most 255 points at most 16.
+pub const LISTING_ROOM: usize = 4104;
+
+// Room for every other line.
+pub const LINE_ROOM: usize = 31;
+
+fn listing_room() -> [u8; LISTING_ROOM]
     ensures { λ r. ⌜ 4104 ≡ length r ⌝ }
 {
-    [0; 4104]
+    [0; LISTING_ROOM]
 }
 
-// Room for the longest line of the desk.
-fn line_room() -> [u8; 31]
+fn line_room() -> [u8; LINE_ROOM]
     ensures { λ r. ⌜ 31 ≡ length r ⌝ }
 {
-    [0; 31]
+    [0; LINE_ROOM]
 }
 
 // The listing of a plate: points, inside count and margin columns used; then each point in sheet order.
 pub fn listing(plate: &[u8], text: &mut [u8]) -> usize
-    ensures { λ r. ⌜ Prints (listingOf (now (plate .entry))) (now (text .entry)) r (now (text .exit)) ⌝ }
+    ensures { λ r. ⌜ Prints 4104 (listingOf (now (plate .entry))) (now (text .entry)) r (now (text .exit)) ⌝ }
 {
     let mut room = listing_room();
     let length = put_listing(&mut room, plate);
@@ -44,7 +48,7 @@ pub fn listing(plate: &[u8], text: &mut [u8]) -> usize
 
 // The line of a refusal.
 pub fn refusal_line(number: u8, text: &mut [u8]) -> usize
-    ensures { λ r. ⌜ Prints (refusalLine number) (now (text .entry)) r (now (text .exit)) ⌝ }
+    ensures { λ r. ⌜ Prints 14 (refusalLine number) (now (text .entry)) r (now (text .exit)) ⌝ }
 {
     let mut room = line_room();
     let length = put_refusal(&mut room, number);
@@ -52,7 +56,7 @@ pub fn refusal_line(number: u8, text: &mut [u8]) -> usize
 }
 
 fn loaded_line(desk: Desk, text: &mut [u8]) -> usize
-    ensures { λ r. ⌜ Prints (loadedLine desk) (now (text .entry)) r (now (text .exit)) ⌝ }
+    ensures { λ r. ⌜ Prints 19 (loadedLine desk) (now (text .entry)) r (now (text .exit)) ⌝ }
 {
     let mut room = line_room();
     let length = put_loaded(&mut room, desk);
@@ -60,7 +64,7 @@ fn loaded_line(desk: Desk, text: &mut [u8]) -> usize
 }
 
 fn marked_line(number: u16, verdict: Verdict, text: &mut [u8]) -> usize
-    ensures { λ r. ⌜ Prints (markedLine number verdict) (now (text .entry)) r (now (text .exit)) ⌝ }
+    ensures { λ r. ⌜ Prints 31 (markedLine number verdict) (now (text .entry)) r (now (text .exit)) ⌝ }
 {
     let mut room = line_room();
     let length = put_marked(&mut room, number, verdict);
@@ -69,7 +73,7 @@ fn marked_line(number: u16, verdict: Verdict, text: &mut [u8]) -> usize
 
 // The line of a load with this answer, which gave the desk.
 pub fn load_line(answer: LoadAnswer, desk: Desk, text: &mut [u8]) -> usize
-    ensures { λ r. ⌜ Prints (loadLine answer desk) (now (text .entry)) r (now (text .exit)) ⌝ }
+    ensures { λ r. ⌜ Prints 31 (loadLine answer desk) (now (text .entry)) r (now (text .exit)) ⌝ }
 {
     match answer {
         LoadAnswer::Accepted => loaded_line(desk, text),
@@ -79,7 +83,7 @@ pub fn load_line(answer: LoadAnswer, desk: Desk, text: &mut [u8]) -> usize
 
 // The line of a mark with this answer.
 pub fn mark_line(answer: MarkAnswer, text: &mut [u8]) -> usize
-    ensures { λ r. ⌜ Prints (markLine answer) (now (text .entry)) r (now (text .exit)) ⌝ }
+    ensures { λ r. ⌜ Prints 31 (markLine answer) (now (text .entry)) r (now (text .exit)) ⌝ }
 {
     match answer {
         MarkAnswer::Marked { number, verdict } => marked_line(number, verdict, text),

@@ -61,7 +61,7 @@ pub(crate) fn put_end(text: &mut [u8], at: usize) -> usize
 
 // Copies a line into a lent buffer, if it fits.
 pub(crate) fn fit(line: &[u8], text: &mut [u8]) -> usize
-    ensures { λ r. ⌜ Prints (now (line .entry)) (now (text .entry)) r (now (text .exit)) ⌝ }
+    ensures { λ r. ⌜ Prints (length (now (line .entry))) (now (line .entry)) (now (text .entry)) r (now (text .exit)) ⌝ }
 {
     copy_to(line, text, 0);
     if text.len() < line.len() {

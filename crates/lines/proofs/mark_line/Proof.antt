@@ -1,5 +1,7 @@
 -- `lines::mark_line` meets its contract. Assumes nothing.
 use borrow.Author.Needs.{needs}
+use native.Mathlib.Omega.{arith}
+use Rattle.lines.specs.Writing.{prints-looser}
 use Rattle.lines.proofs.mark_line.Statement.{statement}
 use Rattle.lines.proofs.mark_line.Tie as tie
 
@@ -25,7 +27,7 @@ same-length-2 : tie.Need-same-length-2
 same-length-2 c = search needs
 
 returns-2 : tie.Need-returns-2
-returns-2 c = rw (c .before .before .before .before .before .answer2 .given .1) (c .before .before .refusal-line .ensures)
+returns-2 c = rw (c .before .before .before .before .before .answer2 .given .1) (prints-looser (omega arith) (c .before .before .refusal-line .ensures))
 
 pub mark-line-spec : {M : Type 1} → statement M
 mark-line-spec =

@@ -2,7 +2,7 @@
 use borrow.Author.Needs.{needs}
 use mathlib.Core.Path.{sym}
 use lib.Seq.{length-take-le}
-use Rattle.lines.specs.Writing.{put-text}
+use Rattle.lines.specs.Writing.{prints-put}
 use Rattle.lines.proofs.marked_line.Statement.{statement}
 use Rattle.lines.proofs.marked_line.Tie as tie
 
@@ -28,7 +28,7 @@ same-length : tie.Need-same-length
 same-length c = search needs
 
 returns : tie.Need-returns
-returns c = rw (put-text (c .before .before .before .before .before .before .put-marked .ensures)) at (c .before .before .fit .ensures)
+returns c = prints-put (c .before .before .before .before .before .before .put-marked .ensures) (c .before .before .fit .ensures)
 
 pub marked-line-spec : {M : Type 1} → statement M
 marked-line-spec =

@@ -1,9 +1,8 @@
 -- `lines::plate_lines::put_listing` meets its contract. Assumes nothing.
 use borrow.Author.Needs.{needs}
-use Prim.Native.Nat.{_+_, _*_, _≤_}
+use Prim.Native.Nat.{_≤_}
 use lib.ListN.{length}
 use native.Mathlib.Omega.{arith}
-use Rattle.format.specs.Sheet.{pointCount}
 use Rattle.lines.specs.Listing.{listingOf}
 use Rattle.lines.specs.Writing.{put-more}
 use Rattle.lines.proofs.plate_lines.put_listing.Statement.{statement}
