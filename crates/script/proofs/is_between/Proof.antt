@@ -1,5 +1,4 @@
 -- `script::is_between` meets its contract. Assumes nothing.
-use borrow.Author.Needs.{needs}
 use borrow.Author.Tests.{le-leb, lt-leb}
 use Rattle.script.specs.Calls.{isBetween}
 use Rattle.script.proofs.is_between.Statement.{statement}
