@@ -1,16 +1,16 @@
 -- `conformance::print_positions` meets its contract. Assumes nothing.
 use borrow.Author.Needs.{needs}
-use Prim.Native.Nat.{_≤_, _-_}
+use Prim.Native.Nat.{_-_, _≤_}
 use lib.ListN.{length}
 use native.Mathlib.Omega.{arith}
 use Rattle.conformance.proofs.print_positions.Statement.{statement}
 use Rattle.conformance.proofs.print_positions.Tie as tie
 
 abbrev Inv-loop : tie.InvT-loop
-Inv-loop list k₀ k = k ≤ length list
+Inv-loop so-far list printed₀ k₀ printed k = k ≤ length list
 
 abbrev μ-loop : tie.MeasureT-loop
-μ-loop list k₀ k = length list - k
+μ-loop so-far list printed₀ k₀ printed k = length list - k
 
 loop-holds : tie.Need-loop-holds Inv-loop μ-loop
 loop-holds c = search needs

@@ -2,7 +2,7 @@
 use borrow.Author.Needs.{needs}
 use mathlib.Core.Path.{sym}
 use lib.Seq.{length-take-le}
-use Rattle.conformance.proofs.Laws.{made-within}
+use Rattle.plate_maker.specs.MakingLaws.{made-within}
 use Rattle.conformance.proofs.run_sheet.Statement.{statement}
 use Rattle.conformance.proofs.run_sheet.Tie as tie
 
@@ -19,7 +19,7 @@ enum-known-written : tie.Need-enum-known-written
 enum-known-written c = search needs
 
 array-share-prefix-output : tie.Need-array-share-prefix-output
-array-share-prefix-output c = made-within _ _ _ _ _ _ _ (c .before .before .before .before .before .make .ensures) (c .before .written .given .1)
+array-share-prefix-output c = made-within (c .before .before .before .before .before .make .ensures) (c .before .written .given .1)
 
 slice-aggregate-print-made : tie.Need-slice-aggregate-print-made
 slice-aggregate-print-made c = sym (length-take-le _ _ (array-share-prefix-output (c .before)))
@@ -30,17 +30,8 @@ print-made-requires c κs = search needs
 enum-known-number : tie.Need-enum-known-number
 enum-known-number c = search needs
 
-slice-aggregate-print-word : tie.Need-slice-aggregate-print-word
-slice-aggregate-print-word c = search needs
-
-print-word-requires : tie.Need-print-word-requires
-print-word-requires c κs = search needs
-
-print-refusal-requires : tie.Need-print-refusal-requires
-print-refusal-requires c κs = search needs
-
-end-line-requires : tie.Need-end-line-requires
-end-line-requires c κs = search needs
+print-refused-sheet-requires : tie.Need-print-refused-sheet-requires
+print-refused-sheet-requires c κs = search needs
 
 returns : tie.Need-returns
 returns c = search needs
@@ -60,9 +51,6 @@ run-sheet-spec =
     slice-aggregate-print-made
     print-made-requires
     enum-known-number
-    slice-aggregate-print-word
-    print-word-requires
-    print-refusal-requires
-    end-line-requires
+    print-refused-sheet-requires
     returns
     returns-2)

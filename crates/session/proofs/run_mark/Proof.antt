@@ -1,48 +1,31 @@
 -- `session::run_mark` meets its contract. Assumes nothing.
 use borrow.Author.Needs.{needs}
-use mathlib.Core.Path.{ap}
+use mathlib.Core.Path.{_≡_, ap, subst}
+use Rattle.desk.specs.Desk.{markOf}
 use Rattle.desk.specs.DeskLaws.{marking-exactly}
 use Rattle.desk.specs.declared.MarkResult.{MarkResult}
+use Rattle.lines.specs.DeskLines.{markLine}
+use Rattle.lines.specs.Writing.{Prints}
 use Rattle.session.proofs.run_mark.Statement.{statement}
 use Rattle.session.proofs.run_mark.Tie as tie
 
 mark-requires : tie.Need-mark-requires
 mark-requires c κs = search needs
 
-enum-known-answer : tie.Need-enum-known-answer
-enum-known-answer c = search needs
+mark-line-requires : tie.Need-mark-line-requires
+mark-line-requires c κs = search needs
 
-cast-print-decimal : tie.Need-cast-print-decimal
-cast-print-decimal c = search needs
-
-print-decimal-requires : tie.Need-print-decimal-requires
-print-decimal-requires c κs = search needs
-
-print-verdict-requires : tie.Need-print-verdict-requires
-print-verdict-requires c κs = search needs
-
-enum-known-answer-2 : tie.Need-enum-known-answer-2
-enum-known-answer-2 c = search needs
-
-print-refusal-requires : tie.Need-print-refusal-requires
-print-refusal-requires c κs = search needs
+same-length : tie.Need-same-length
+same-length c = search needs
 
 returns : tie.Need-returns
-returns c = ap (λ (r : MarkResult). r .desk) (marking-exactly _ _ _ .0 (c .before .before .before .before .before .before .mark .ensures))
-
-returns-2 : tie.Need-returns-2
-returns-2 c = ap (λ (r : MarkResult). r .desk) (marking-exactly _ _ _ .0 (c .before .before .before .before .before .mark .ensures))
+returns c =
+    let a = c .before .before .before .before .before .before .before .before .args in
+    let e : c .before .before .before .before .before .mark .result ≡ markOf (a .desk) (a .list .now) = marking-exactly _ _ _ .0 (c .before .before .before .before .before .mark .ensures) in
+    record {
+      desk = ap (λ (r : MarkResult). r .desk) e;
+      line = subst (λ (r : MarkResult). Prints 31 (markLine (r .answer)) (a .line .now) (c .before .before .mark-line .result) (c .before .before .mark-line .last .1 .0)) e (c .before .before .mark-line .ensures);
+    }
 
 pub run-mark-spec : {M : Type 1} → statement M
-run-mark-spec =
-    tie.close
-    (tie.spec
-    mark-requires
-    enum-known-answer
-    cast-print-decimal
-    print-decimal-requires
-    print-verdict-requires
-    enum-known-answer-2
-    print-refusal-requires
-    returns
-    returns-2)
+run-mark-spec = tie.close (tie.spec mark-requires mark-line-requires same-length returns)
