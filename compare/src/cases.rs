@@ -1,5 +1,6 @@
 //! Document 01's worked examples that aren't marked (P): the tie, the desk on P1, and the sheet of
-//! each plausible error. All that is expected is written by hand from the document.
+//! each plausible error; and a sheet whose last outside point isn't in the greatest margin column. All
+//! that is expected is written by hand from the document.
 
 use crate::conformance::answer_line;
 use crate::lent::Content;
@@ -22,7 +23,7 @@ pub struct Case {
 
 /// In the lower wall's case the label of point 0 reaches up over the row of point 1, right of it,
 /// to where the label of point 2 would stand; points 0 and 2 don't touch point 1's leader.
-pub const CASES: [Case; 6] = [
+pub const CASES: [Case; 7] = [
     Case {
         name: "the tie (4,3), (3,4)",
         map: (20, 12),
@@ -97,6 +98,28 @@ pub const CASES: [Case; 6] = [
             (&[1, 0], "2 valid 1 0"),
             (&[1, 1], "3 valid 1 0"),
             (&[1, 2], "4 valid 1 0"),
+        ],
+    },
+    // The labels of 2 and of 3 meet 1's label and 1's leader, 4's meets 0's label and 0's leader;
+    // so only 0 and 1 can be inside, and they are free of all others. Outside are rows 5, 4 and 0.
+    Case {
+        name: "two margin columns, the last outside point in column 0",
+        map: (20, 12),
+        label: (4, 3),
+        points: &[(11, 2), (8, 6), (6, 5), (5, 4), (10, 0)],
+        best: 2,
+        plates: &[
+            (&[2, 0, 1, 3, 2, 0, 3, 1, 4, 0], 0),
+            (&[2, 0, 1, 3, 2, 0, 3, 1, 4, 2], 43),
+            (&[2, 0, 1, 3, 2, 0, 3, 0, 4, 0], 43),
+            (&[1, 2, 4, 1, 0, 3, 1, 0, 2, 4, 3], 44),
+        ],
+        lists: &[
+            (&[2, 0, 1], "1 valid 2 0"),
+            (&[1, 2], "2 clash 1 2 leader"),
+            (&[3, 0, 1, 3], "3 clash 1 3 labels"),
+            (&[2, 1, 4], "4 clash 0 4 leader"),
+            (&[1, 0], "5 valid 1 1"),
         ],
     },
 ];

@@ -157,6 +157,26 @@ fn p8_third_in_column_0_is_across_a_leader() {
 }
 
 #[test]
+fn margin_columns_used_by_a_listing() {
+    // Worked out from document 01. The label of 2 or of 3 meets 1, be 1 inside or outside, and that
+    // of 4 meets 0 likewise; 0 and 1 are free of all others. Outside from the top down are 2, 3 and
+    // 4 in rows 5, 4 and 0, so the greatest margin column is neither the first's nor the last's.
+    let points = [(1, 11, 2), (2, 8, 6), (3, 6, 5), (4, 5, 4), (5, 10, 0)];
+    let bytes = sheet_bytes((20, 12), (4, 3), &points);
+    let sheet = Sheet::read(&bytes).unwrap();
+    assert_eq!(best_choices(&sheet), [Choice::of(&[0, 1])]);
+    assert_eq!(
+        listing(&bytes, best_choice(&sheet)),
+        "plate 5 2 2\n1 in\n2 in\n3 out 0\n4 out 1\n5 out 0\n"
+    );
+    // Nothing inside: rows 6, 5, 4, 2 and 0, each less than 3 below the one before.
+    assert_eq!(
+        listing(&bytes, Choice::default()),
+        "plate 5 0 5\n1 out 3\n2 out 0\n3 out 1\n4 out 2\n5 out 4\n"
+    );
+}
+
+#[test]
 fn p10_no_points() {
     let bytes = bytes_of((4, 2), &[]);
     let sheet = Sheet::read(&bytes).unwrap();
