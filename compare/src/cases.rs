@@ -2,11 +2,11 @@
 //! each plausible error; and a sheet whose last outside point isn't in the greatest margin column. All
 //! that is expected is written by hand from the document.
 
-use crate::conformance::answer_line;
 use crate::lent::Content;
 use crate::report::Report;
 use crate::side_by_side::{check, making, must, reading, same, Buffers, Compared, Desks};
 use reference::random::sheet_bytes;
+use reference::script::mark_line;
 
 pub struct Case {
     pub name: &'static str,
@@ -153,7 +153,7 @@ impl Case {
         let mut desks = Desks::fresh();
         desks.load(report, &sheet, buffers)?;
         for &(list, wanted) in self.lists {
-            let line = answer_line(desks.mark(report, list)?);
+            let line = mark_line(desks.mark(report, list)?);
             let message = format!("the library says {line}, the document {wanted}");
             must(line == wanted, &message)?;
         }

@@ -57,6 +57,7 @@ fn desk() {
     let script = [
         call(2, &[0]),
         call(1, &p1()[..27]),
+        call(1, &[0; 300]),
         call(1, &p1()),
         call(2, &[2, 1, 2]),
         call(2, &[1, 0]),
@@ -65,7 +66,7 @@ fn desk() {
         call(2, &[2, 0, 1]),
     ]
     .concat();
-    let lines = "refused 51\nrefused 16\nloaded 3 2\n1 valid 2 0\n2 clash 0 1 leader\n\
+    let lines = "refused 51\nrefused 16\nrefused 12\nloaded 3 2\n1 valid 2 0\n2 clash 0 1 leader\n\
                  3 valid 0 2\nrefused 31\n4 clash 0 1 labels\n";
     assert_eq!(run("desk", &script), lines);
     let bad = format!("{lines}bad call\n");
