@@ -4,9 +4,11 @@
 
 use crate::lent::Content;
 use crate::report::Report;
-use crate::side_by_side::{check, making, must, reading, same, Buffers, Compared, Desks};
+use crate::scripts::Calls;
+use crate::side_by_side::{check, making, must, printing, reading, same, session};
+use crate::side_by_side::{Buffers, Compared, Desks};
 use reference::random::sheet_bytes;
-use reference::script::mark_line;
+use reference::script::{mark_line, LOAD, MARK};
 
 pub struct Case {
     pub name: &'static str,
@@ -19,6 +21,8 @@ pub struct Case {
     pub plates: &'static [(&'static [u8], u8)],
     /// Lists for a fresh desk with the sheet loaded, in this order, and the answers.
     pub lists: &'static [(&'static [u8], &'static str)],
+    /// What print_plate writes, if there is just one best choice.
+    pub listing: Option<&'static str>,
 }
 
 /// In the lower wall's case the label of point 0 reaches up over the row of point 1, right of it,
@@ -42,6 +46,7 @@ pub const CASES: [Case; 7] = [
             (&[2, 0, 1], "3 clash 0 1 labels"),
             (&[0], "4 valid 0 1"),
         ],
+        listing: None,
     },
     Case {
         name: "the desk on P1",
@@ -55,6 +60,7 @@ pub const CASES: [Case; 7] = [
             (&[1, 0], "2 clash 0 1 leader"),
             (&[0], "3 valid 0 2"),
         ],
+        listing: Some("plate 3 2 1\n17 out 0\n18 in\n19 in\n"),
     },
     Case {
         name: "left to right (P2)",
@@ -64,6 +70,7 @@ pub const CASES: [Case; 7] = [
         best: 1,
         plates: &[(&[1, 2, 2, 1, 0, 0, 1], 0), (&[1, 0, 2, 2, 0, 1, 1], 44)],
         lists: &[(&[1, 0], "1 clash 0 1 leader"), (&[1, 2], "2 valid 1 0")],
+        listing: Some("plate 3 1 2\n17 out 1\n18 out 0\n19 in\n"),
     },
     Case {
         name: "only the rectangle placed before (P8)",
@@ -76,6 +83,7 @@ pub const CASES: [Case; 7] = [
             (&[0, 3, 0, 0, 1, 1, 2, 0], 43),
         ],
         lists: &[(&[0], "1 valid 0 1")],
+        listing: Some("plate 3 1 2\n17 in\n18 out 0\n19 out 1\n"),
     },
     Case {
         name: "touching labels (P3)",
@@ -85,6 +93,7 @@ pub const CASES: [Case; 7] = [
         best: 2,
         plates: &[(&[2, 0, 1, 0], 0)],
         lists: &[(&[2, 0, 1], "1 valid 2 0")],
+        listing: Some("plate 2 2 0\n17 in\n18 in\n"),
     },
     Case {
         name: "the label from under a lower wall",
@@ -99,6 +108,7 @@ pub const CASES: [Case; 7] = [
             (&[1, 1], "3 valid 1 0"),
             (&[1, 2], "4 valid 1 0"),
         ],
+        listing: None,
     },
     // The labels of 2 and of 3 meet 1's label and 1's leader, 4's meets 0's label and 0's leader;
     // so only 0 and 1 can be inside, and they are free of all others. Outside are rows 5, 4 and 0.
@@ -121,6 +131,7 @@ pub const CASES: [Case; 7] = [
             (&[2, 1, 4], "4 clash 0 4 leader"),
             (&[1, 0], "5 valid 1 1"),
         ],
+        listing: Some("plate 5 2 2\n17 in\n18 in\n19 out 0\n20 out 1\n21 out 0\n"),
     },
 ];
 
@@ -138,7 +149,7 @@ impl Case {
         [&self.sheet()[..], added].concat()
     }
 
-    /// Runs the case; the library, the reference and the document must agree.
+    /// Runs the case; the library, the programs, the reference and the document must agree.
     pub fn run(&self, report: &mut Report) -> Compared {
         let sheet = self.sheet();
         let buffers = Buffers::just_enough(self.points.len(), Content::Greatest);
@@ -157,6 +168,25 @@ impl Case {
             let message = format!("the library says {line}, the document {wanted}");
             must(line == wanted, &message)?;
         }
-        Ok(())
+        self.run_programs(report)
+    }
+
+    /// The same sheet printed, and the same load and marks as a script.
+    fn run_programs(&self, report: &mut Report) -> Compared {
+        let printed = printing(report, &[&self.sheet()])?;
+        if let Some(wanted) = self.listing {
+            let message = format!("print_plate writes {printed:?}, the document has {wanted:?}");
+            must(printed == wanted, &message)?;
+        }
+        let mut script = Calls::default();
+        let mut wanted = format!("loaded {} {}\n", self.points.len(), self.best);
+        script.call(LOAD, &self.sheet());
+        for &(list, line) in self.lists {
+            script.call(MARK, list);
+            wanted += &format!("{line}\n");
+        }
+        let printed = session(report, &[&script.bytes])?;
+        let message = format!("desk_session writes {printed:?}, the document has {wanted:?}");
+        must(printed == wanted, &message)
     }
 }

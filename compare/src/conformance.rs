@@ -9,9 +9,10 @@
 use crate::cases::CASES;
 use crate::damage::{aim_at_list, aim_at_plate, aim_at_sheet, once_in};
 use crate::parts::{any_list, any_plate};
+use crate::scripts::Calls;
 use crate::sheets::{sheet, small_sheet};
 use reference::random::Random;
-use reference::script::{call_bytes, desk_line, run_calls, LOAD, MARK};
+use reference::script::{desk_line, run_calls, LOAD, MARK};
 use reference::{Desk, Sheet, WORKSPACE_NUMBERS};
 
 const SHEET: u8 = 11;
@@ -60,29 +61,11 @@ const MOST_PART: usize = 500;
 /// How many calls are made up.
 const MADE_UP: usize = 200;
 
-/// An input under way, with the sheet that its desk has loaded.
-struct Input {
-    bytes: Vec<u8>,
-    loaded: Option<Sheet>,
-}
-
-impl Input {
-    fn call(&mut self, kind: u8, part: &[u8]) {
-        self.bytes.extend(call_bytes(kind, part));
-        if let (LOAD, Ok(sheet)) = (kind, Sheet::read(part)) {
-            self.loaded = Some(sheet);
-        }
-    }
-}
-
 /// An input: document 01's unmarked examples, then made-up calls: each number that the program can
 /// meet, then any. A kind that isn't known ends the run, so that the call after it has no line.
 pub fn input(seed: u64) -> Result<Vec<u8>, String> {
     let mut random = Random::new(seed);
-    let mut input = Input {
-        bytes: Vec::new(),
-        loaded: None,
-    };
+    let mut input = Calls::default();
     // A fresh desk has no sheet, whatever the list.
     input.call(MARK, &[0]);
     input.call(MARK, &[3, 0]);
@@ -110,7 +93,7 @@ pub fn input(seed: u64) -> Result<Vec<u8>, String> {
 }
 
 /// For each number a call that gives it. Gives how many calls that was.
-fn aimed(random: &mut Random, input: &mut Input) -> Result<usize, String> {
+fn aimed(random: &mut Random, input: &mut Calls) -> Result<usize, String> {
     let mut calls = 0;
     for number in 11..=20 {
         let part = until(random, |random| {
@@ -162,7 +145,7 @@ fn until(random: &mut Random, mut next: impl FnMut(&mut Random) -> Option<Vec<u8
 }
 
 /// A call of any kind, a third of them damaged.
-fn any_call(random: &mut Random, input: &mut Input) {
+fn any_call(random: &mut Random, input: &mut Calls) {
     let kind =
         [SHEET, SHEET, PLATE, PLATE, LOAD, MARK, MARK, MARK, MARK][usize::from(random.below(9))];
     let loaded = input.loaded.clone();

@@ -8,7 +8,7 @@ use reference::random::Random;
 const FORGOTTEN: [usize; 2] = [256, 65_536];
 
 /// One of these.
-fn one_of(random: &mut Random, numbers: &[u16]) -> u16 {
+pub fn one_of(random: &mut Random, numbers: &[u16]) -> u16 {
     numbers[usize::from(random.below(numbers.len() as u16))]
 }
 
@@ -50,6 +50,22 @@ fn lengthen(random: &mut Random, bytes: &mut Vec<u8>) {
     };
     let filler = random.below(256) as u8;
     bytes.resize(bytes.len() + more, filler);
+}
+
+/// Thousands of bytes more, around the powers of two at which a reader's buffer may end. After them
+/// the sheet comes once more at times.
+pub fn lengthen_much(random: &mut Random, sheet: &mut Vec<u8>) {
+    let again = sheet.clone();
+    let length = match random.below(4) {
+        0 => usize::from(one_of(random, &[4095, 4096, 4097, 8192])),
+        1 => usize::from(random.between(4096, 20_000)),
+        2 => 4096 + sheet.len(),
+        _ => FORGOTTEN[1] + sheet.len(),
+    };
+    sheet.resize(length, 0);
+    if once_in(random, 2) {
+        sheet.extend(again);
+    }
 }
 
 /// Some bytes fewer, `least` are left.

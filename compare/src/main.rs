@@ -1,6 +1,7 @@
-//! Compares the proved library with the reference, call by call: document 01's worked examples that
-//! aren't marked (P), and thousands of made-up cases, from a fixed seed and then from a fresh one.
-//! It ends at the first difference, with the bytes in hand, the seeds, and exit status 1.
+//! Compares the proved library with the reference, call by call, and what the programs print_plate and
+//! desk_session print with the reference's texts: document 01's worked examples that aren't marked
+//! (P), and thousands of made-up cases, from a fixed seed and then from a fresh one. It ends at the
+//! first difference, with the bytes in hand, the seeds, and exit status 1.
 
 #![deny(unsafe_code)]
 
@@ -10,7 +11,9 @@ mod damage;
 mod lent;
 mod library;
 mod parts;
+mod programs;
 mod report;
+mod scripts;
 mod sheets;
 mod side_by_side;
 
@@ -72,13 +75,15 @@ fn fresh_seed() -> Result<u64, String> {
 /// All cases of the document, then the made-up ones of the fixed seed and of this one. A long run
 /// has ten times as many.
 fn run_all(seed: u64, long: bool) -> Result<(), String> {
+    programs::all_there()?;
     let start = Instant::now();
     let (times, arguments) = match long {
         true => (10, format!("--long --seed {seed}")),
         false => (1, format!("--seed {seed}")),
     };
     println!(
-        "the proved library beside the reference: the fixed seed {FIXED_SEED}, then seed {seed}"
+        "the proved library and the programs beside the reference: \
+         the fixed seed {FIXED_SEED}, then seed {seed}"
     );
     let mut report = Report::default();
     let done = run_document(&mut report)

@@ -1,11 +1,14 @@
 //! The parts of the comparison. A case is a sheet, a plate, or a script of a desk's calls, and is
-//! made up from its own seed alone.
+//! made up from its own seed alone. The last three parts run programs, the others call the library.
 
-use crate::damage::{aim_at_sheet, damage_list, damage_plate, damage_sheet, once_in, wrap_counts};
+use crate::damage::{aim_at_sheet, damage_list, damage_plate, damage_sheet};
+use crate::damage::{lengthen_much, once_in, wrap_counts};
 use crate::lent::Content;
 use crate::report::{Report, WRAPPED};
+use crate::scripts::{script, script_to_52};
 use crate::sheets::{crowded_sheet, sheet, sheet_of, small_sheet};
-use crate::side_by_side::{check, making, reading, same, Buffers, Compared, Desks};
+use crate::side_by_side::{check, making, printing, reading, same, session};
+use crate::side_by_side::{Buffers, Compared, Desks};
 use reference::random::Random;
 use reference::{best_choice, Choice, Sheet, WORKSPACE_NUMBERS};
 
@@ -16,7 +19,7 @@ pub struct Part {
     pub run: fn(&mut Random, &mut Report) -> Compared,
 }
 
-pub const PARTS: [Part; 6] = [
+pub const PARTS: [Part; 9] = [
     Part {
         name: "sheets",
         cases: 40_000,
@@ -46,6 +49,21 @@ pub const PARTS: [Part; 6] = [
         name: "desk-to-52",
         cases: 2,
         run: desk_to_52,
+    },
+    Part {
+        name: "print-plate",
+        cases: 2_000,
+        run: printed_sheet,
+    },
+    Part {
+        name: "desk-session",
+        cases: 500,
+        run: session_script,
+    },
+    Part {
+        name: "desk-session-to-52",
+        cases: 1,
+        run: session_to_52,
     },
 ];
 
@@ -311,4 +329,42 @@ fn desk_to_52(random: &mut Random, report: &mut Report) -> Compared {
     let buffers = Buffers::just_enough(0, Content::any(random));
     script.load(report, &bytes, buffers)?;
     script.mark(random, report)
+}
+
+/// A sheet for print_plate: accepted, damaged, or with bytes after it.
+fn printed_sheet(random: &mut Random, report: &mut Report) -> Compared {
+    let mut bytes = match random.below(16) {
+        0 => sheet_of(random, 0),
+        1 => sheet_of(random, 32),
+        2..=3 => crowded_sheet(random),
+        _ => sheet(random),
+    };
+    match random.below(64) {
+        0 => bytes.clear(),
+        1..=4 => lengthen_much(random, &mut bytes),
+        5..=27 => damage_sheet(random, &mut bytes),
+        _ => {}
+    }
+    printing(report, &in_pieces(random, &bytes)).map(|_| ())
+}
+
+/// A script for desk_session.
+fn session_script(random: &mut Random, report: &mut Report) -> Compared {
+    let script = script(random);
+    session(report, &in_pieces(random, &script)).map(|_| ())
+}
+
+/// A script for desk_session that uses up all 9,999 numbers.
+fn session_to_52(random: &mut Random, report: &mut Report) -> Compared {
+    session(report, &[&script_to_52(random)]).map(|_| ())
+}
+
+/// An input as it comes to a program: mostly at once, at times in two pieces.
+fn in_pieces<'a>(random: &mut Random, bytes: &'a [u8]) -> Vec<&'a [u8]> {
+    if bytes.is_empty() || !once_in(random, 16) {
+        return vec![bytes];
+    }
+    let place = random.below(bytes.len().min(65_535) as u16);
+    let (first, second) = bytes.split_at(place.into());
+    vec![first, second]
 }

@@ -2,6 +2,7 @@
 //! of the case in hand for the message of a failure.
 
 use crate::lent::{CONTENTS, LENGTHS};
+use reference::{ClashKind, Verdict};
 use std::collections::{BTreeMap, VecDeque};
 use std::fmt::{self, Display, Formatter};
 
@@ -13,9 +14,24 @@ pub enum Call {
     Read,
     Load,
     Mark,
+    /// The printing of a sheet by the program print_plate.
+    Print,
+    /// A load that the program desk_session runs.
+    RunLoad,
+    /// A mark that the program desk_session runs.
+    RunMark,
 }
 
-const CALLS: [Call; 5] = [Call::Check, Call::Make, Call::Read, Call::Load, Call::Mark];
+const CALLS: [Call; 8] = [
+    Call::Check,
+    Call::Make,
+    Call::Read,
+    Call::Load,
+    Call::Mark,
+    Call::Print,
+    Call::RunLoad,
+    Call::RunMark,
+];
 
 /// The calls that are lent a workspace.
 const WITH_WORKSPACE: [Call; 2] = [Call::Make, Call::Load];
@@ -29,6 +45,8 @@ pub enum Seen {
     Points(Call, usize),
     /// A call, accepted or not, was lent a workspace of this content or length.
     Workspace(Call, bool, &'static str),
+    /// A list was marked with this verdict.
+    Verdict(Call, &'static str),
     /// A case had this feature.
     Feature(&'static str),
 }
@@ -40,6 +58,7 @@ impl Display for Seen {
             Seen::Points(call, n) => write!(f, "{call:?} accepted, {n} points"),
             Seen::Workspace(call, true, kind) => write!(f, "{call:?} accepted, workspace {kind}"),
             Seen::Workspace(call, false, kind) => write!(f, "{call:?} refused, workspace {kind}"),
+            Seen::Verdict(call, verdict) => write!(f, "{call:?}: {verdict}"),
             Seen::Feature(feature) => write!(f, "{feature}"),
         }
     }
@@ -49,11 +68,11 @@ impl Display for Seen {
 fn numbers_of(call: Call) -> Vec<u8> {
     let sheet = 11..=20;
     let own: &[u8] = match call {
-        Call::Check => &[],
+        Call::Check | Call::Print | Call::RunLoad => &[],
         Call::Make => &[21, 22],
         Call::Read => &[41, 42, 43, 44],
         Call::Load => &[22],
-        Call::Mark => return vec![0, 31, 32, 33, 51, 52],
+        Call::Mark | Call::RunMark => return vec![0, 31, 32, 33, 51, 52],
     };
     [0].into_iter()
         .chain(sheet)
@@ -74,8 +93,43 @@ pub const EMPTY_START: &str = "refused plates with start 0, count 0";
 pub const TRIED: &str = "bests by every choice, up to 12 points";
 pub const SEARCHED: &str = "bests by the search, above 12 points";
 
+/// The verdicts on lists.
+const VERDICTS: [&str; 4] = [
+    "lists valid, shortfall 0",
+    "lists valid, shortfall above 0",
+    "lists with a clash of labels",
+    "lists with a clash with a leader",
+];
+
+/// Which of the verdicts this one is.
+fn verdict_name(verdict: Verdict) -> &'static str {
+    match verdict {
+        Verdict::Valid { shortfall: 0, .. } => VERDICTS[0],
+        Verdict::Valid { .. } => VERDICTS[1],
+        Verdict::Clash {
+            kind: ClashKind::Labels,
+            ..
+        } => VERDICTS[2],
+        Verdict::Clash {
+            kind: ClashKind::Leader,
+            ..
+        } => VERDICTS[3],
+    }
+}
+
+/// The calls that have a verdict.
+const WITH_VERDICT: [Call; 2] = [Call::Mark, Call::RunMark];
+
+/// Printed plates whose last outside point isn't in the greatest margin column, and which use another
+/// count of margin columns than they have points outside.
+pub const PRINTED_NOT_LAST: &str = "printed: the last outside isn't leftmost";
+
+/// Inputs of the programs that come bit by bit.
+pub const PRINTED_PIECES: &str = "printed: an input in pieces";
+pub const SCRIPT_PIECES: &str = "scripts in pieces";
+
 /// Features that must have been seen.
-const FEATURES: [&str; 21] = [
+const FEATURES: [&str; 39] = [
     "best plates with every point inside",
     "best plates with points outside",
     TRIED,
@@ -91,31 +145,61 @@ const FEATURES: [&str; 21] = [
     "damaged sheets in plates",
     WRAPPED,
     EMPTY_START,
-    "lists valid, shortfall 0",
-    "lists valid, shortfall above 0",
-    "lists with a clash of labels",
-    "lists with a clash with a leader",
     "loads onto a loaded desk",
     "loads after number 9999",
+    "printed: no margin column",
+    "printed: 1 margin column",
+    "printed: several margin columns",
+    PRINTED_NOT_LAST,
+    "printed: an input of 0 bytes",
+    "printed: an input above 4,096 bytes",
+    PRINTED_PIECES,
+    "scripts without a byte",
+    "scripts without a bad call",
+    "scripts' parts of 0 bytes",
+    "scripts' parts above 4,096 bytes",
+    "scripts' loads after marks",
+    "bad calls of kind 0",
+    "bad calls of kind 3",
+    "bad calls of kind 255",
+    "bad calls of other kinds",
+    "bad calls cut after the kind",
+    "bad calls cut in the length",
+    "bad calls cut in the bytes",
+    "bad calls after good ones",
+    "bad calls with calls after them",
+    SCRIPT_PIECES,
 ];
 
 /// What may be seen or not: where several best choices exist, the library is free to take any.
 pub const OTHER_CHOICE: &str = "best choices unlike the reference's";
 
-/// How often each answer of each call, each point count and each workspace must be seen. It is so
-/// far below what is to be expected that no seed misses it by chance.
+/// How often each answer of each call, each point count and each workspace must be seen; and the same
+/// of a program, which is run less often, as its start takes a millisecond. It is so far below what is
+/// to be expected that no seed misses it by chance.
 const OFTEN: u64 = 50;
+const OFTEN_OF_PROGRAM: u64 = 3;
+
+fn often(call: Call) -> u64 {
+    match call {
+        Call::Print | Call::RunLoad | Call::RunMark => OFTEN_OF_PROGRAM,
+        _ => OFTEN,
+    }
+}
 
 /// All that must be seen with a seed, and how often.
 fn required() -> Vec<(Seen, u64)> {
     let mut required = Vec::new();
     for call in CALLS {
         let answers = numbers_of(call).into_iter();
-        required.extend(answers.map(|number| (Seen::Answer(call, number), OFTEN)));
-        required.extend((0..=32).map(|n| (Seen::Points(call, n), OFTEN)));
+        required.extend(answers.map(|number| (Seen::Answer(call, number), often(call))));
+        required.extend((0..=32).map(|n| (Seen::Points(call, n), often(call))));
     }
     for (call, accepted, kind) in workspaces() {
         required.push((Seen::Workspace(call, accepted, kind), OFTEN));
+    }
+    for call in WITH_VERDICT {
+        required.extend(VERDICTS.map(|verdict| (Seen::Verdict(call, verdict), often(call))));
     }
     required.extend(FEATURES.map(|feature| (Seen::Feature(feature), 1)));
     required
@@ -190,6 +274,11 @@ impl Report {
         self.saw(Seen::Answer(call, number));
     }
 
+    /// A list was marked with this verdict by both.
+    pub fn verdict(&mut self, call: Call, verdict: Verdict) {
+        self.saw(Seen::Verdict(call, verdict_name(verdict)));
+    }
+
     /// A call on a sheet of n points was accepted by both.
     pub fn accepted(&mut self, call: Call, n: usize) {
         self.saw(Seen::Points(call, n));
@@ -235,6 +324,7 @@ impl Report {
             self.answers(),
             self.points(),
             self.workspaces(),
+            self.verdicts(),
             features
                 .map(|feature| (feature, self.count(Seen::Feature(feature))))
                 .map(|(feature, count)| format!("{feature:<40}{count:>9}\n"))
@@ -252,7 +342,7 @@ impl Report {
                 0 => "yes".to_string(),
                 _ => number.to_string(),
             };
-            if counts != [0; 5] {
+            if counts.iter().any(|&count| count > 0) {
                 text.push_str(&row(&name, counts.map(unless_0)));
             }
         }
@@ -281,6 +371,16 @@ impl Report {
                 count(Call::Load, false),
             ];
             text.push_str(&row(kind, counts.map(unless_0)));
+        }
+        text
+    }
+
+    /// A row for each verdict.
+    fn verdicts(&self) -> String {
+        let mut text = row("verdict", WITH_VERDICT.map(|call| format!("{call:?}")));
+        for verdict in VERDICTS {
+            let counts = WITH_VERDICT.map(|call| self.count(Seen::Verdict(call, verdict)));
+            text.push_str(&row(verdict, counts.map(unless_0)));
         }
         text
     }

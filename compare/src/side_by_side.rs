@@ -1,11 +1,15 @@
-//! One call of the proved library and of the reference, and what must be the same. A difference is
-//! an `Err` with what differs.
+//! One call of the proved library, or one run of a program, and the reference: what must be the same.
+//! A difference is an `Err` with what differs.
 
 use crate::lent::{length_name, Content, Lent};
 use crate::library;
+use crate::programs::{self, Program};
 use crate::report::{Call, Report, Seen, EMPTY_START, ONE_TOO_FEW, OTHER_CHOICE, SEARCHED, TRIED};
+use crate::report::{PRINTED_NOT_LAST, PRINTED_PIECES, SCRIPT_PIECES};
+use crate::scripts;
+use reference::margin::outside_pairs;
 use reference::search::TRY_ALL_POINTS;
-use reference::{Choice, ClashKind, Marked, Sheet, Verdict, WORKSPACE_NUMBERS};
+use reference::{margin_width, Choice, Marked, Sheet, WORKSPACE_NUMBERS};
 
 pub type Compared = Result<(), String>;
 
@@ -143,16 +147,10 @@ fn made_plate(report: &mut Report, bytes: &[u8], plate: &[u8]) -> Compared {
     let choice = choice_of_plate(plate).ok_or("the plate has no inside list")?;
     let wanted = reference::plate_bytes(&sheet, choice);
     same("the plate of its own choice", plate, &wanted[..])?;
-    let valid = reference::valid(&sheet, choice);
-    must(valid, "the plate's choice isn't valid")?;
-    let best = reference::best_choice(&sheet);
-    let valid = reference::valid(&sheet, best);
-    must(valid, "the reference's choice isn't valid")?;
-    let (count, best_count) = (choice.0.count_ones(), best.0.count_ones());
-    same("the inside count", count, best_count)?;
+    let best = must_be_best(&sheet, choice)?;
     report.accepted(Call::Make, n);
     report.feature(way_to_best(n));
-    report.feature(match usize::try_from(count) == Ok(n) {
+    report.feature(match usize::try_from(choice.0.count_ones()) == Ok(n) {
         true => "best plates with every point inside",
         false => "best plates with points outside",
     });
@@ -160,6 +158,18 @@ fn made_plate(report: &mut Report, bytes: &[u8], plate: &[u8]) -> Compared {
         report.feature(OTHER_CHOICE);
     }
     Ok(())
+}
+
+/// Fails unless the choice is valid and has the best count. Gives the reference's best choice.
+fn must_be_best(sheet: &Sheet, choice: Choice) -> Result<Choice, String> {
+    must(reference::valid(sheet, choice), "the choice isn't valid")?;
+    let best = reference::best_choice(sheet);
+    let valid = reference::valid(sheet, best);
+    must(valid, "the reference's choice isn't valid")?;
+    let (count, best_count) = (choice.0.count_ones(), best.0.count_ones());
+    let message = format!("the choice has {count} points inside, the best is {best_count}");
+    must(count == best_count, &message)?;
+    Ok(best)
 }
 
 /// How the reference finds the best count of n points.
@@ -280,22 +290,99 @@ impl Desks {
         };
         let (n, _) = self.reference.loaded().ok_or("marked without a sheet")?;
         report.accepted(Call::Mark, n);
-        report.feature(feature(marked.verdict));
+        report.verdict(Call::Mark, marked.verdict);
         Ok(answer)
     }
 }
 
-fn feature(verdict: Verdict) -> &'static str {
-    match verdict {
-        Verdict::Valid { shortfall: 0, .. } => "lists valid, shortfall 0",
-        Verdict::Valid { .. } => "lists valid, shortfall above 0",
-        Verdict::Clash {
-            kind: ClashKind::Labels,
-            ..
-        } => "lists with a clash of labels",
-        Verdict::Clash {
-            kind: ClashKind::Leader,
-            ..
-        } => "lists with a clash with a leader",
+/// The printing of a sheet by print_plate, whose input comes in these pieces. Gives the text.
+pub fn printing(report: &mut Report, pieces: &[&[u8]]) -> Result<String, String> {
+    let bytes = pieces.concat();
+    report.hold("sheet to print", &bytes);
+    let printed = programs::run(Program::PrintPlate, pieces)?;
+    let (number, choice) = match Sheet::read(&bytes) {
+        Ok(sheet) => (0, printed_choice(report, &sheet, &printed)?),
+        Err(number) => (number, Choice::default()),
+    };
+    let wanted = reference::listing(&bytes, choice);
+    same_text(Program::PrintPlate, &printed, &wanted)?;
+    report.answered(Call::Print, number);
+    if pieces.len() > 1 {
+        report.feature(PRINTED_PIECES);
     }
+    match bytes.len() {
+        0 => report.feature("printed: an input of 0 bytes"),
+        4097.. => report.feature("printed: an input above 4,096 bytes"),
+        _ => {}
+    }
+    Ok(wanted)
+}
+
+/// The choice that a printed plate names, which must be a best one.
+fn printed_choice(report: &mut Report, sheet: &Sheet, printed: &[u8]) -> Result<Choice, String> {
+    let choice = choice_of_listing(sheet, printed);
+    must_be_best(sheet, choice)?;
+    report.accepted(Call::Print, sheet.points().len());
+    let (pairs, width) = (outside_pairs(sheet, choice), margin_width(sheet, choice));
+    report.feature(match width {
+        0 => "printed: no margin column",
+        1 => "printed: 1 margin column",
+        _ => "printed: several margin columns",
+    });
+    let last = pairs.last().map_or(width, |&(_, column)| column + 1);
+    if width != last && usize::from(width) != pairs.len() {
+        report.feature(PRINTED_NOT_LAST);
+    }
+    Ok(choice)
+}
+
+/// The choice that a listing's lines name: after the first there is one for each position. Whether
+/// the lines are right otherwise is another question.
+fn choice_of_listing(sheet: &Sheet, text: &[u8]) -> Choice {
+    let lines = text.split(|&byte| byte == b'\n').skip(1);
+    let inside = (0..sheet.points().len() as u8)
+        .zip(lines)
+        .filter(|(_, line)| line.split(|&byte| byte == b' ').nth(1) == Some(b"in"))
+        .map(|(position, _)| position);
+    Choice::of(&inside.collect::<Vec<u8>>())
+}
+
+/// A script, run by desk_session, whose input comes in these pieces. Gives the text.
+pub fn session(report: &mut Report, pieces: &[&[u8]]) -> Result<String, String> {
+    let script = pieces.concat();
+    report.hold("script", &script);
+    let printed = programs::run(Program::DeskSession, pieces)?;
+    let wanted = reference::run_script(&script);
+    same_text(Program::DeskSession, &printed, &wanted)?;
+    scripts::note(report, &script);
+    if pieces.len() > 1 {
+        report.feature(SCRIPT_PIECES);
+    }
+    Ok(wanted)
+}
+
+/// Fails unless the program printed just this text. The message has the first line that differs.
+fn same_text(program: Program, printed: &[u8], wanted: &str) -> Compared {
+    if printed == wanted.as_bytes() {
+        return Ok(());
+    }
+    let printed = String::from_utf8_lossy(printed);
+    let mut lines = printed.split_inclusive('\n');
+    let mut wanted = wanted.split_inclusive('\n');
+    let mut number = 1;
+    loop {
+        match (lines.next(), wanted.next()) {
+            (Some(line), Some(wanted)) if line == wanted => number += 1,
+            (line, wanted) => {
+                let (line, wanted) = (shown(line), shown(wanted));
+                let differ = format!("it printed {line}, the reference has {wanted}");
+                return Err(format!("{program}, line {number}: {differ}"));
+            }
+        }
+    }
+}
+
+/// A line for a message, its newline too.
+fn shown(line: Option<&str>) -> String {
+    line.map_or("nothing".to_string(), |line| format!("{line:?}"))
 }
