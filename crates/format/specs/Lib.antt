@@ -11,3 +11,4 @@ pub mod Start
 pub mod MakingQuestions
 pub mod PlateLength
 pub mod PlateBytes
+pub mod PlateAgree

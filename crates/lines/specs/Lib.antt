@@ -3,3 +3,5 @@ pub mod Decimal
 pub mod Listing
 pub mod DeskLines
 pub mod Writing
+pub mod ListedChoice
+pub mod LineCases

@@ -59,10 +59,17 @@ sheet2 = sheet 4 3 3 (at 1 0 5 (at 2 6 6 (at 3 8 7 [])))
 abbrev pub sheet8 : List ℕ
 sheet8 = sheet 4 3 3 (at 1 5 10 (at 2 0 9 (at 3 2 7 [])))
 
+-- Label 4 by 3, points (11,2), (8,6), (6,5), (5,4), (10,0).
+abbrev pub sheetOfFive : List ℕ
+sheetOfFive = sheet 4 3 5 (at 1 11 2 (at 2 8 6 (at 3 6 5 (at 4 5 4 (at 5 10 0 [])))))
+
 abbrev pub cases : List Case
 cases =
     -- P1: "The plate adds 02 01 02 01 00 00."
     record { sheet = sheet1; inside = 1 ∷ 2 ∷ []; expected = onlyBest; added = 2 ∷ 1 ∷ 2 ∷ 1 ∷ 0 ∷ 0 ∷ [] } ∷
+    -- one best choice, whose outside points take columns 0, 1, 0 from the top down: the greatest column is neither the last pair's nor the
+    -- outside count
+    record { sheet = sheetOfFive; inside = 0 ∷ 1 ∷ []; expected = onlyBest; added = 2 ∷ 0 ∷ 1 ∷ 3 ∷ 2 ∷ 0 ∷ 3 ∷ 1 ∷ 4 ∷ 0 ∷ [] } ∷
     -- "On P1, a fresh desk gives list ... 01 00 number 2, clash of 0 and 1"
     record { sheet = sheet1; inside = 0 ∷ []; expected = clashes 0 1 LabelAndLeader; added = 1 ∷ 0 ∷ 2 ∷ 2 ∷ 0 ∷ 1 ∷ 0 ∷ [] } ∷
     -- P2: "only the third inside; margin columns 1 for the first, 0 for the second"

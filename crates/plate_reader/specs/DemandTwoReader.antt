@@ -64,7 +64,7 @@ module _ (p : List ℕ) (a : Asked p) where
 -- A PLATE IS ACCEPTED, AND READ BACK
 
 module _ (s : List ℕ) (S : Choice) (a : Accepted s) where
-  parts : Parts (plateOf s S) s (insideBelow S (pointCount s)) (length (outside (pointsOf s) S)) (pairs (placed (pointsOf s) (outside (pointsOf s) S)))
+  pub parts : Parts (plateOf s S) s (insideBelow S (pointCount s)) (length (outside (pointsOf s) S)) (pairs (placed (pointsOf s) (outside (pointsOf s) S)))
   unfolding plateOf insideSection outsideSection
   parts = read-back _ _ _ _ _ (a .long) refl
 
