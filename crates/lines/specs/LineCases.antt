@@ -8,7 +8,6 @@ use Rattle.labeling.specs.Tests.{and-left, and-right}
 use Rattle.format.specs.Bytes.{sameBytes, dec-bytes}
 use Rattle.format.specs.Sheet.{twoBytes}
 use Rattle.clash.specs.declared.ClashKind.the-variants.{Labels, LabelAndLeader}
-
 use Rattle.desk.specs.declared.Desk.{Desk}
 use Rattle.desk.specs.declared.LoadAnswer.the-variants.{Accepted, Refused}
 use Rattle.desk.specs.declared.MarkAnswer.the-variants.{Marked, Refused as RefusedMark}

@@ -17,6 +17,8 @@ ghost use Rattle.lines.specs.Writing.{Prints};
 
 mod desk_lines;
 mod plate_lines;
+mod points;
+mod sections;
 mod text;
 
 // Room for every listing: line one has at most 24 bytes, and each of at most 255 points at most 16.

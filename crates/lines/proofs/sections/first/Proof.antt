@@ -1,12 +1,12 @@
--- `lines::plate_lines::first` meets its contract. Assumes nothing.
+-- `lines::sections::first` meets its contract. Assumes nothing.
 use borrow.Author.Needs.{needs}
 use mathlib.Core.Path.{_≡_, sym, ap}
 use Prim.Native.Nat.{_-_}
 use lib.ListN.{take}
 use lib.Seq.{take-all}
 use native.Mathlib.Omega.{arith}
-use Rattle.lines.proofs.plate_lines.first.Statement.{statement}
-use Rattle.lines.proofs.plate_lines.first.Tie as tie
+use Rattle.lines.proofs.sections.first.Statement.{statement}
+use Rattle.lines.proofs.sections.first.Tie as tie
 
 returns : tie.Need-returns
 returns c = let a = c .before .args in sym (take-all (a .count) (a .bytes .now) (omega arith))

@@ -1,12 +1,12 @@
--- `lines::plate_lines::outside_pairs` meets its contract. Assumes nothing.
+-- `lines::sections::outside_pairs` meets its contract. Assumes nothing.
 use borrow.Author.Needs.{needs}
 use mathlib.Core.Path.{_≡_, ap, _∙_}
 use Prim.Native.Nat.{_+_}
 use lib.ListN.{drop}
 use native.Mathlib.Omega.{arith}
 use Rattle.plate_reader.specs.PlateQuestions.{outsideStart, outsidePairs}
-use Rattle.lines.proofs.plate_lines.outside_pairs.Statement.{statement}
-use Rattle.lines.proofs.plate_lines.outside_pairs.Tie as tie
+use Rattle.lines.proofs.sections.outside_pairs.Statement.{statement}
+use Rattle.lines.proofs.sections.outside_pairs.Tie as tie
 
 sheet-length-requires : tie.Need-sheet-length-requires
 sheet-length-requires c κs = search needs

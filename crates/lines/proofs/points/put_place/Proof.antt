@@ -1,11 +1,11 @@
--- `lines::plate_lines::put_place` meets its contract. Assumes nothing.
+-- `lines::points::put_place` meets its contract. Assumes nothing.
 use borrow.Author.Needs.{needs}
 use mathlib.Core.Path.{_≡_}
 use Rattle.clash.specs.ChoiceFlags.{held}
 use Rattle.lines.specs.Listing.{marginOf}
 use Rattle.lines.proofs.Laws.{place-in, place-out}
-use Rattle.lines.proofs.plate_lines.put_place.Statement.{statement}
-use Rattle.lines.proofs.plate_lines.put_place.Tie as tie
+use Rattle.lines.proofs.points.put_place.Statement.{statement}
+use Rattle.lines.proofs.points.put_place.Tie as tie
 
 element-copy-out-if1 : tie.Need-element-copy-out-if1
 element-copy-out-if1 c = search needs

@@ -1,4 +1,4 @@
--- `lines::plate_lines::put_point` meets its contract. Assumes nothing.
+-- `lines::points::put_point` meets its contract. Assumes nothing.
 use borrow.Author.Needs.{needs}
 use mathlib.Core.Path.{_≡_}
 use Prim.Native.Nat.{_+_, _≤_}
@@ -10,8 +10,8 @@ use Rattle.plate_reader.specs.PlateQuestions.{insideList}
 use Rattle.clash.specs.ChoiceFlags.{held, flags-hold}
 use Rattle.lines.specs.Listing.{pointLine}
 use Rattle.lines.specs.Writing.{put-more}
-use Rattle.lines.proofs.plate_lines.put_point.Statement.{statement}
-use Rattle.lines.proofs.plate_lines.put_point.Tie as tie
+use Rattle.lines.proofs.points.put_point.Statement.{statement}
+use Rattle.lines.proofs.points.put_point.Tie as tie
 
 call-number-requires : tie.Need-call-number-requires
 call-number-requires c κs = search needs

@@ -1,12 +1,12 @@
--- `lines::plate_lines::inside_positions` meets its contract. Assumes nothing.
+-- `lines::sections::inside_positions` meets its contract. Assumes nothing.
 use borrow.Author.Needs.{needs}
 use mathlib.Core.Path.{_≡_, ap, ap₂, _∙_}
 use Prim.Native.Nat.{_+_}
 use lib.ListN.{take, drop}
 use native.Mathlib.Omega.{arith}
 use Rattle.plate_reader.specs.PlateQuestions.{insideStart, insideList}
-use Rattle.lines.proofs.plate_lines.inside_positions.Statement.{statement}
-use Rattle.lines.proofs.plate_lines.inside_positions.Tie as tie
+use Rattle.lines.proofs.sections.inside_positions.Statement.{statement}
+use Rattle.lines.proofs.sections.inside_positions.Tie as tie
 
 sheet-length-requires : tie.Need-sheet-length-requires
 sheet-length-requires c κs = search needs

@@ -1,12 +1,12 @@
--- `lines::plate_lines::after` meets its contract. Assumes nothing.
+-- `lines::sections::after` meets its contract. Assumes nothing.
 use borrow.Author.Needs.{needs}
 use mathlib.Core.Path.{sym}
 use Prim.Native.Nat.{_-_, _≤_}
 use lib.ListN.{length, drop, length-drop, drop-of-length-le}
 use lib.Seq.{take-all}
 use native.Mathlib.Omega.{arith}
-use Rattle.lines.proofs.plate_lines.after.Statement.{statement}
-use Rattle.lines.proofs.plate_lines.after.Tie as tie
+use Rattle.lines.proofs.sections.after.Statement.{statement}
+use Rattle.lines.proofs.sections.after.Tie as tie
 
 sub-result : tie.Need-sub-result
 sub-result c = search needs
