@@ -10,7 +10,9 @@ use desk_lines::put_refusal;
 use plate_lines::put_listing;
 use text::fit;
 ghost use mathlib.Core.Path.{_≡_};
+ghost use Prim.Native.Nat.{_+_, _*_};
 ghost use lib.ListN.{length};
+ghost use Rattle.format.specs.Sheet.{pointCount};
 ghost use Rattle.lines.specs.Listing.{listingOf};
 ghost use Rattle.lines.specs.DeskLines.{refusalLine, loadedLine, loadLine, markedLine, markLine};
 ghost use Rattle.lines.specs.Writing.{Prints};
@@ -21,11 +23,11 @@ mod points;
 mod sections;
 mod text;
 
-// Room for every listing: line one has at most 24 bytes, and each of at most 255 points at most 16.
-pub const LISTING_ROOM: usize = 4104;
-
-// Room for every other line.
+// Room for every line but those of a listing.
 pub const LINE_ROOM: usize = 31;
+
+// Room for every listing: line one has at most 24 bytes, and each of at most 255 points at most 16.
+const LISTING_ROOM: usize = 4104;
 
 fn listing_room() -> [u8; LISTING_ROOM]
     ensures { λ r. ⌜ 4104 ≡ length r ⌝ }
@@ -39,9 +41,10 @@ fn line_room() -> [u8; LINE_ROOM]
     [0; LINE_ROOM]
 }
 
-// The listing of a plate: points, inside count and margin columns used; then each point in sheet order.
+// The listing of a plate: points, inside count and margin columns used; then each point in sheet order. For n points 24 + 16 · n bytes are
+// enough.
 pub fn listing(plate: &[u8], text: &mut [u8]) -> usize
-    ensures { λ r. ⌜ Prints 4104 (listingOf (now (plate .entry))) (now (text .entry)) r (now (text .exit)) ⌝ }
+    ensures { λ r. ⌜ Prints (24 + 16 * pointCount (now (plate .entry))) (listingOf (now (plate .entry))) (now (text .entry)) r (now (text .exit)) ⌝ }
 {
     let mut room = listing_room();
     let length = put_listing(&mut room, plate);

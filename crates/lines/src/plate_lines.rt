@@ -9,7 +9,7 @@ use crate::text::put_word;
 use clash::choice_of;
 use format::point_count;
 use plate_reader::inside_count;
-ghost use Prim.Native.Nat.{_+_, _≤_};
+ghost use Prim.Native.Nat.{_+_, _*_, _≤_};
 ghost use lib.ListN.{length};
 ghost use Rattle.format.specs.Sheet.{pointCount};
 ghost use Rattle.lines.specs.Listing.{firstLine, pointLines, listingOf};
@@ -18,7 +18,7 @@ ghost use Rattle.lines.specs.Writing.{Put};
 // Each point in sheet order: at most 255 of them, with at most 16 bytes each.
 fn put_points(text: &mut [u8], at: usize, plate: &[u8]) -> usize
     requires { ⌜ at + 4080 ≤ length (now text) ⌝ }
-    ensures { λ r. ⌜ Put 4080 (now (text .entry)) at (pointLines (now (plate .entry)) (pointCount (now (plate .entry)))) r (now (text .exit)) ⌝ }
+    ensures { λ r. ⌜ Put (16 * pointCount (now (plate .entry))) (now (text .entry)) at (pointLines (now (plate .entry)) (pointCount (now (plate .entry)))) r (now (text .exit)) × (r ≤ at + 4080) ⌝ }
 {
     let n = point_count(plate);
     let inside = choice_of(inside_positions(plate));
@@ -47,7 +47,7 @@ fn put_first_line(text: &mut [u8], plate: &[u8]) -> usize
 // The listing at the start of the text, and its length.
 pub(crate) fn put_listing(text: &mut [u8], plate: &[u8]) -> usize
     requires { ⌜ 4104 ≤ length (now text) ⌝ }
-    ensures { λ r. ⌜ Put 4104 (now (text .entry)) 0 (listingOf (now (plate .entry))) r (now (text .exit)) ⌝ }
+    ensures { λ r. ⌜ Put (24 + 16 * pointCount (now (plate .entry))) (now (text .entry)) 0 (listingOf (now (plate .entry))) r (now (text .exit)) × (r ≤ 4104) ⌝ }
 {
     let next = put_first_line(text, plate);
     put_points(text, next, plate)

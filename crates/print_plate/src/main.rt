@@ -1,7 +1,6 @@
 // Prints the listing of a best plate of the sheet on standard input, or `refused` and the number of the first no. Where a read or a write
 // fails it stops, with a line on standard error.
 // A buffer of 4,096 bytes is enough for an input of any length: format/specs/Start.antt shows that the first 203 bytes decide.
-use lines::LISTING_ROOM;
 use lines::listing;
 use lines::refusal_line;
 use plate_maker::MakeAnswer;
@@ -16,7 +15,7 @@ ghost use Rattle.print_plate.specs.PrintedText.{PrintedText};
 // Makes a plate of the sheet and writes its listing into the text, or the line of its refusal: the length of what it writes. The output has
 // room for the largest plate, of 12 + 8 · 32 bytes.
 fn put_text(sheet: &[u8], text: &mut [u8]) -> usize
-    requires { ⌜ 4104 ≤ length (now text) ⌝ }
+    requires { ⌜ 536 ≤ length (now text) ⌝ }
     ensures { λ r. ⌜ (r ≤ length (now (text .exit))) × PrintedText (now (sheet .entry)) (take r (now (text .exit))) ⌝ }
 {
     let mut output = [0u8; 268];
@@ -34,10 +33,11 @@ fn write_text(sheet: &[u8], text: &[u8])
     write_output(text);
 }
 
-fn text_room() -> [u8; LISTING_ROOM]
-    ensures { λ r. ⌜ 4104 ≡ length r ⌝ }
+// Room for the listing of 32 points, 24 + 16 · 32 bytes.
+fn text_room() -> [u8; 536]
+    ensures { λ r. ⌜ 536 ≡ length r ⌝ }
 {
-    [0; LISTING_ROOM]
+    [0; 536]
 }
 
 fn print_plate_of(sheet: &[u8]) {

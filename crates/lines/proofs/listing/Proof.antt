@@ -28,7 +28,7 @@ same-length : tie.Need-same-length
 same-length c = search needs
 
 returns : tie.Need-returns
-returns c = prints-put (c .before .before .before .before .before .before .put-listing .ensures) (c .before .before .fit .ensures)
+returns c = prints-put (c .before .before .before .before .before .before .put-listing .ensures .0) (c .before .before .fit .ensures)
 
 pub listing-spec : {M : Type 1} → statement M
 listing-spec =

@@ -21,7 +21,7 @@ returns : tie.Need-returns
 unfolding listingOf
 returns c =
     let room : 4104 ≤ length (c .before .before .before .before .before .before .before .before .before .before .args .text .now) = c .before .before .before .before .before .before .before .before .before .before .pre in
-    put-more (omega arith) (c .before .before .before .before .before .before .put-first-line .ensures) (c .before .before .put-points .ensures)
+    (put-more (omega arith) (c .before .before .before .before .before .before .put-first-line .ensures) (c .before .before .put-points .ensures .0), omega (arith, c .before .before .before .before .before .before .put-first-line .ensures .fits, c .before .before .before .before .before .before .put-first-line .ensures .next-is, c .before .before .put-points .ensures .1))
 
 pub put-listing-spec : {M : Type 1} → statement M
 put-listing-spec =

@@ -7,7 +7,7 @@ use native.Mathlib.Omega.{arith}
 use Rattle.format.specs.Sheet.{pointCount}
 use Rattle.clash.specs.ChoiceFlags.{flagsOf}
 use Rattle.lines.specs.Listing.{pointLines}
-use Rattle.lines.specs.Writing.{Put, put-looser}
+use Rattle.lines.specs.Writing.{Put}
 use Rattle.lines.proofs.Laws.{point-none, point-more}
 use Rattle.lines.proofs.plate_lines.put_points.Statement.{statement}
 use Rattle.lines.proofs.plate_lines.put_points.Tie as tie
@@ -63,8 +63,7 @@ returns c =
     let a = c .before .before .before .before .before .before .before .before .args in
     let l = c .before .loop in
     let all : l .position ≡ pointCount (a .plate .now) = omega (arith, c .loop-test .left, l .inv .0, c .before .before .before .before .before .point-count .ensures) in
-    let few : 16 * l .position ≤ 4080 = omega arith in
-    rw all at (put-looser few (l .inv .2))
+    (rw all at (l .inv .2), omega (arith, l .inv .2 .fits, l .inv .2 .next-is))
 
 pub put-points-spec : {M : Type 1} → statement M
 put-points-spec =
