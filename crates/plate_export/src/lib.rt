@@ -4,6 +4,8 @@ ghost use mathlib.Core.Path.{_≡_};
 ghost use Rattle.format.specs.Sheet.{sheetNo};
 ghost use Rattle.format.specs.MakingQuestions.{workspaceAfter};
 ghost use Rattle.desk.specs.Desk.{fresh, loadOf, markOf};
+ghost use Rattle.lines.specs.Listing.{listingOf};
+ghost use Rattle.lines.specs.Writing.{Prints};
 ghost use Rattle.plate_export.specs.Exported.{MakingExported, ReadingExported};
 ghost use Rattle.plate_export.specs.ExportedDesk.{deskOf, stateOf, loadReply, kindNumber, verdictReply, markReply};
 use clash::ClashKind;
@@ -82,6 +84,14 @@ pub extern "C" fn plate_read(plate: &[u8]) -> ReadResult
             inside_count: 0,
         },
     }
+}
+
+// lines::listing: the length of the listing, 0 where the text is too short for it.
+#[no_mangle]
+pub extern "C" fn plate_listing(plate: &[u8], text: &mut [u8]) -> usize
+    ensures { λ r. ⌜ Prints 4104 (listingOf (now (plate .entry))) (now (text .entry)) r (now (text .exit)) ⌝ }
+{
+    lines::listing(plate, text)
 }
 
 // A desk, field for field that of the crate desk. The spare byte of a desk that comes in is ignored.
