@@ -59,6 +59,9 @@ int main(void)
     }
     print_bytes("inside", output + read.inside_start, read.inside_count);
 
+    uint8_t text[PLATE_LISTING];
+    fwrite(text, 1, plate_listing(output, made.written, text, sizeof text), stdout);
+
     static const uint8_t best[] = {2, 1, 2}, first[] = {1, 0}, none[] = {0};
     struct desk_state desk = desk_new();
     desk = mark(desk, best, sizeof best);

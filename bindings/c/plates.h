@@ -45,6 +45,10 @@ PLATES_SAME(sizeof(size_t), 8);
 /* The most bytes of output a making asks for: 12 + 8n with n = 32 points. */
 #define PLATE_OUTPUT 268
 
+/* How many bytes are enough for the listing of a plate: 24 + 16n with n = 32
+   points. */
+#define PLATE_LISTING 536
+
 /* The number of the first no of a sheet's questions (11 to 20), 0 if the sheet
    is accepted. */
 uint32_t plate_check_sheet(const uint8_t *sheet, size_t sheet_len);
@@ -73,6 +77,22 @@ struct plate_read_result {
 };
 PLATES_SAME(sizeof(struct plate_read_result), 4 + 4 + 8 + 8);
 struct plate_read_result plate_read(const uint8_t *plate, size_t plate_len);
+
+/* Listing. The text that the program print_plate prints of this plate. Line one
+   has the points, the inside count and the margin columns used; then each point
+   in sheet order has a line with its call number and `in`, or `out` and its
+   margin column. The text is ASCII, each line ends with a newline, and no zero
+   byte ends it.
+
+   The answer is the text's length; bytes past it are untouched. Where the buffer
+   is too short for the text the answer is 0 and nothing is written. No text is
+   empty. For a plate of n points 24 + 16n bytes are enough.
+
+   No question is asked. Of bytes that are no plate the text says what stands
+   where a plate has its fields, 0 past the end: of up to 255 points, and 4,104
+   bytes are enough for that. */
+size_t plate_listing(const uint8_t *plate, size_t plate_len,
+                     uint8_t *text, size_t text_len);
 
 /* A desk, by value. Get one from desk_new, and hand each call the desk that the
    call before it handed back: after a refusal that is the same one. A desk that

@@ -1,5 +1,5 @@
-/* What plates.h says of slices of count 0, of the structs' bytes and of a desk's
-   fields. `bindings/run` builds and runs it; it prints what doesn't hold. */
+/* What plates.h says of slices of count 0, of the structs' bytes, of a listing's
+   buffer and of a desk's fields. `bindings/run` builds and runs it; it prints what doesn't hold. */
 #include "plates.h"
 
 #include <stdio.h>
@@ -17,13 +17,23 @@ static void check(bool holds, const char *what, int line)
     failures++;
 }
 
-/* Document 01's P1: the best count is 2. Its plate adds 02 01 02 01 00 00. */
+/* Document 01's P1: the best count is 2. */
 static const uint8_t P1[28] = {
     0x01, 0x14, 0x00, 0x0a, 0x00, 0x04, 0x00, 0x02, 0x00, 0x03,
     0x11, 0x00, 0x02, 0x00, 0x03, 0x00,
     0x12, 0x00, 0x04, 0x00, 0x04, 0x00,
     0x13, 0x00, 0x0a, 0x00, 0x07, 0x00,
 };
+
+/* Its plate, and what is printed of it. */
+static const uint8_t P1_PLATE[34] = {
+    0x01, 0x14, 0x00, 0x0a, 0x00, 0x04, 0x00, 0x02, 0x00, 0x03,
+    0x11, 0x00, 0x02, 0x00, 0x03, 0x00,
+    0x12, 0x00, 0x04, 0x00, 0x04, 0x00,
+    0x13, 0x00, 0x0a, 0x00, 0x07, 0x00,
+    0x02, 0x01, 0x02, 0x01, 0x00, 0x00,
+};
+static const char P1_LISTING[] = "plate 3 2 1\n17 out 0\n18 in\n19 in\n";
 
 static uint16_t workspace[PLATE_WORKSPACE];
 
@@ -58,6 +68,10 @@ static void null_with_count_0(void)
     CHECK(plate_make(P1, sizeof P1, NULL, 0, workspace, PLATE_WORKSPACE).number == 21);
     CHECK(plate_make(P1, sizeof P1, output, sizeof output, NULL, 0).number == 22);
     CHECK(plate_read(NULL, 0).number == 11);
+    CHECK(plate_listing(NULL, 0, NULL, 0) == 0);
+    CHECK(plate_listing(P1_PLATE, sizeof P1_PLATE, NULL, 0) == 0);
+    CHECK(plate_listing(NULL, 0, output, sizeof output) == 12);
+    CHECK(same(output, "plate 0 0 0\n", 12));
     CHECK(desk_load(fresh, NULL, 0, NULL, 0).number == 11);
     CHECK(desk_load(fresh, P1, sizeof P1, NULL, 0).number == 22);
     CHECK(desk_mark(fresh, NULL, 0).number == 51);
@@ -80,17 +94,44 @@ static void bytes_of_a_making(void)
 
 static void bytes_of_a_reading(void)
 {
-    uint8_t plate[34] = {0};
-    memcpy(plate, P1, sizeof P1);
-    memcpy(plate + sizeof P1, (const uint8_t[]){2, 1, 2, 1, 0, 0}, 6);
     fill_stack();
-    struct plate_read_result read = plate_read(plate, sizeof plate);
+    struct plate_read_result read = plate_read(P1_PLATE, sizeof P1_PLATE);
     const struct plate_read_result expected = {.inside_start = 29, .inside_count = 2};
     CHECK(same(&read, &expected, sizeof read));
     fill_stack();
-    read = plate_read(plate, sizeof plate - 1);
+    read = plate_read(P1_PLATE, sizeof P1_PLATE - 1);
     const struct plate_read_result refused = {.number = 41};
     CHECK(same(&read, &refused, sizeof read));
+}
+
+/* Lists P1's plate into a buffer of this length: the text or nothing, and no
+   other byte. */
+static void list_into(size_t room)
+{
+    uint8_t text[PLATE_LISTING], expected[PLATE_LISTING];
+    memset(text, 0xee, sizeof text);
+    memset(expected, 0xee, sizeof expected);
+    const size_t length = strlen(P1_LISTING), answer = room < length ? 0 : length;
+    memcpy(expected, P1_LISTING, answer);
+    CHECK(plate_listing(P1_PLATE, sizeof P1_PLATE, text, room) == answer);
+    CHECK(same(text, expected, sizeof text));
+}
+
+static void buffer_of_a_listing(void)
+{
+    for (size_t room = 0; room <= PLATE_LISTING; room++)
+        list_into(room);
+}
+
+/* One point, and no byte after its count: its call number, the inside count and
+   the outside pairs are past the end. */
+static void listing_of_no_plate(void)
+{
+    static const uint8_t bytes[10] = {[9] = 1};
+    static const char listing[] = "plate 1 0 0\n0 out 0\n";
+    uint8_t text[PLATE_LISTING];
+    CHECK(plate_listing(bytes, sizeof bytes, text, sizeof text) == strlen(listing));
+    CHECK(same(text, listing, strlen(listing)));
 }
 
 static void bytes_of_a_desk(void)
@@ -145,6 +186,8 @@ int main(void)
     null_with_count_0();
     bytes_of_a_making();
     bytes_of_a_reading();
+    buffer_of_a_listing();
+    listing_of_no_plate();
     bytes_of_a_desk();
     a_spare_byte_is_ignored();
     return failures != 0;

@@ -1,8 +1,8 @@
 //! Document 01's P1 and its desk example. `bindings/run` builds and runs it, and
 //! compares what it prints with bindings/expected.
 
-use plates::{check_sheet, make, read_plate, ClashKind, Desk, Refusal, Verdict};
-use plates::{OUTPUT, WORKSPACE};
+use plates::{check_sheet, listing, make, read_plate, ClashKind, Desk, Refusal, Verdict};
+use plates::{LISTING, OUTPUT, WORKSPACE};
 
 /// Map 20 by 10, label 4 by 2, points 17 at (2,3), 18 at (4,4), 19 at (10,7).
 const P1: [u8; 28] = [
@@ -22,6 +22,7 @@ fn main() -> Result<(), Refusal> {
     let plate = &output[..written];
     print_bytes("plate", plate);
     print_bytes("inside", read_plate(plate)?);
+    print!("{}", listing(plate, &mut [0; LISTING]).expect("room"));
 
     let desk = mark(Desk::new(), &[2, 1, 2]);
     let (desk, loaded) = desk.load(&P1, &mut workspace);

@@ -80,6 +80,12 @@ mod library {
             workspace_len: usize,
         ) -> MakeResult;
         pub fn plate_read(plate: *const u8, plate_len: usize) -> ReadResult;
+        pub fn plate_listing(
+            plate: *const u8,
+            plate_len: usize,
+            text: *mut u8,
+            text_len: usize,
+        ) -> usize;
         pub fn desk_new() -> DeskState;
         pub fn desk_load(
             desk: DeskState,
@@ -111,6 +117,10 @@ pub fn make(sheet: &[u8], output: &mut [u8], workspace: &mut [u16]) -> MakeResul
 
 pub fn read(plate: &[u8]) -> ReadResult {
     unsafe { library::plate_read(plate.as_ptr(), plate.len()) }
+}
+
+pub fn listing(plate: &[u8], text: &mut [u8]) -> usize {
+    unsafe { library::plate_listing(plate.as_ptr(), plate.len(), text.as_mut_ptr(), text.len()) }
 }
 
 pub fn desk_new() -> DeskState {

@@ -11,11 +11,17 @@ pub use desk::{ClashKind, Desk, Marked, Verdict};
 pub use refusal::Refusal;
 pub use saved::{RestoreError, SAVED, SAVED_VERSION};
 
+use std::str::from_utf8;
+
 /// How many 16-bit numbers of workspace a making or a load asks for.
 pub const WORKSPACE: usize = 32_768;
 
 /// The most bytes of output a making asks for: 12 + 8n with n = 32 points.
 pub const OUTPUT: usize = 268;
+
+/// How many bytes are enough for the listing of a plate: 24 + 16n with n = 32
+/// points.
+pub const LISTING: usize = 536;
 
 /// Asks a sheet's questions.
 pub fn check_sheet(sheet: &[u8]) -> Result<(), Refusal> {
@@ -34,6 +40,17 @@ pub fn make(sheet: &[u8], output: &mut [u8], workspace: &mut [u16]) -> Result<us
 /// the inside positions, without their count byte.
 pub fn read_plate(plate: &[u8]) -> Result<&[u8], Refusal> {
     inside(&ffi::read(plate), plate)
+}
+
+/// Lists a plate, as the program print_plate prints it, into a buffer, and gives
+/// the text: the part of the buffer that holds it. Bytes past it are untouched.
+/// `None` says that the buffer is too short; it is then as it was.
+///
+/// No question is asked. Of bytes that are no plate the text says what stands
+/// where a plate has its fields, 0 past the end; 4,104 bytes are enough for that.
+pub fn listing<'a>(plate: &[u8], text: &'a mut [u8]) -> Option<&'a str> {
+    let length = ffi::listing(plate, text);
+    listed(length, text)
 }
 
 /// What the fields of a making's result say, with an output of this length.
@@ -60,6 +77,16 @@ fn inside<'a>(read: &ffi::ReadResult, plate: &'a [u8]) -> Result<&'a [u8], Refus
     Ok(inside.expect("the library's promise: the inside list is within the plate"))
 }
 
+/// What a listing's answer says of the buffer.
+fn listed(length: usize, text: &[u8]) -> Option<&str> {
+    if length == 0 {
+        return None;
+    }
+    let text = text.get(..length);
+    let text = text.expect("the library's promise: a listing is within the buffer");
+    Some(from_utf8(text).expect("the library's promise: a listing is ASCII"))
+}
+
 /// A call's number: 0 is yes to all questions, others are those of a refusal.
 fn answer(number: u32) -> Result<(), Refusal> {
     match number {
@@ -79,7 +106,7 @@ fn promised(kept: bool, promise: &str) {
 
 #[cfg(test)]
 mod tests {
-    use super::{ffi, inside, written};
+    use super::{ffi, inside, listed, written};
     use std::panic::catch_unwind;
 
     #[test]
@@ -118,5 +145,14 @@ mod tests {
         assert!(!ends(44, 0, 23, 0), "a refusal with a start");
         assert!(!ends(44, 0, 0, 1), "a refusal with a count");
         assert!(!ends(45, 0, 0, 0), "a number that no question has");
+    }
+
+    #[test]
+    fn a_broken_listing_panics() {
+        let ends = |length, text: &[u8]| catch_unwind(|| listed(length, text).is_some()).is_ok();
+        assert!(ends(0, b"") && ends(0, b"\xff") && ends(3, b"in\n\xff"));
+        assert!(!ends(4, b"in\n"), "past the buffer");
+        assert!(!ends(usize::MAX, b"in\n"), "past the buffer");
+        assert!(!ends(4, b"in\n\xff"), "not ASCII");
     }
 }

@@ -1,6 +1,7 @@
 //! The wrapper over the proved library. `bindings/run` runs these tests.
 
 mod desks;
+mod listings;
 mod refusals;
 mod saved;
 mod slices;

@@ -1,7 +1,7 @@
 //! What the library is lent: empty slices, and slices at any place in a buffer.
 
 use crate::{load, number, P3};
-use plates::{check_sheet, make, read_plate, Desk, WORKSPACE};
+use plates::{check_sheet, listing, make, read_plate, Desk, LISTING, WORKSPACE};
 
 /// P3 with both points inside adds these bytes.
 const PLATE: [u8; 4] = [2, 0, 1, 0];
@@ -13,6 +13,9 @@ fn empty_slices() {
     assert_eq!(number(make(&P3, &mut [], &mut [])), 21);
     assert_eq!(number(make(&P3, &mut [0; 28], &mut [])), 22);
     assert_eq!(number(read_plate(&[])), 11);
+    assert_eq!(listing(&[], &mut []), None);
+    assert_eq!(listing(&[], &mut [0; 11]), None);
+    assert_eq!(listing(&[], &mut [0; LISTING]), Some("plate 0 0 0\n"));
     let (desk, loaded) = Desk::new().load(&[], &mut []);
     assert_eq!((&desk, number(loaded)), (&Desk::new(), 11));
     let (desk, loaded) = desk.load(&P3, &mut []);
@@ -30,6 +33,7 @@ fn empty_ends() {
     let end = &P3[P3.len()..];
     assert_eq!(number(check_sheet(end)), 11);
     assert_eq!(number(read_plate(end)), 11);
+    assert_eq!(listing(end, &mut [0; 12]), Some("plate 0 0 0\n"));
     assert_eq!(number(Desk::new().mark(end).1), 51);
 }
 
@@ -57,5 +61,10 @@ fn any_place_in_a_buffer() {
         let inside = read_plate(plate).expect("accepted");
         assert_eq!(inside, [0, 1]);
         assert!(std::ptr::eq(inside, &plate[23..25]));
+        let mut text = [0xa5; 64];
+        let listed = listing(plate, &mut text[offset..offset + 24]);
+        assert_eq!(listed, Some("plate 2 2 0\n1 in\n2 in\n"));
+        assert!(text[..offset].iter().all(|&byte| byte == 0xa5));
+        assert!(text[offset + 22..].iter().all(|&byte| byte == 0xa5));
     }
 }
