@@ -4,7 +4,7 @@
 use bench::plate::{self, MOST, WORKSPACE};
 use bench::proved::{self, Desk};
 use bench::sheets::{families, Family, Random, SIZES};
-use bench::{baseline, masks};
+use bench::{baseline, listing, masks};
 use std::array::from_fn;
 use std::hint::black_box;
 use std::process::ExitCode;
@@ -15,6 +15,7 @@ const ROUNDS: usize = 40;
 const OUTPUT: usize = 12 + 8 * MOST;
 
 type Make = fn(&[u8], &mut [u8], &mut [u16]) -> Result<usize, u8>;
+type List = fn(&[u8], &mut [u8]) -> Option<usize>;
 /// Rust with the proved library's loops, the proved library, and the other Rust
 /// maker.
 const MAKERS: [Make; 3] = [baseline::make, proved::make, masks::make];
@@ -152,36 +153,57 @@ impl Given {
         &rest[..1 + usize::from(rest[0])]
     }
 
-    /// Whether no call is refused, and the list is valid and best.
+    /// The plate's listing, and the buffer that it is written into.
+    fn listed(&self, list: List) -> (Option<usize>, [u8; listing::ROOM]) {
+        let mut text = [0; listing::ROOM];
+        (list(&self.plate, &mut text), text)
+    }
+
+    /// Whether no call is refused, the list is valid and best, and the listing is
+    /// the same in Rust.
     fn accepted(&self) -> bool {
         let list = self.list();
+        let listed = self.listed(proved::listing);
         proved::check_sheet(&self.sheet)
             && proved::read_plate(&self.plate) == Some(&list[1..])
             && proved::mark(self.desk.fork(), list).1 == Some((list[0].into(), 0))
+            && listed.0.is_some()
+            && listed == self.listed(listing::listing)
     }
 }
 
-/// The times of check_sheet in Rust, and of the proved check_sheet, read_plate,
-/// mark and load.
-fn call_times(given: &[Given]) -> [f64; 5] {
+/// The times of check_sheet, make and listing, in Rust and proved, and of the
+/// proved read_plate, mark and load.
+fn call_times(given: &[Given]) -> [f64; 9] {
     let mut workspace = vec![0; WORKSPACE];
+    let mut output = [0; OUTPUT];
+    let mut text = [0; listing::ROOM];
     times(given.len(), |which, at| {
         let given = black_box(&given[at]);
+        let (sheet, plate) = (&given.sheet, &given.plate);
         match which {
-            0 => _ = black_box(plate::check_sheet(&given.sheet)),
-            1 => _ = black_box(proved::check_sheet(&given.sheet)),
-            2 => _ = black_box(proved::read_plate(&given.plate)),
-            3 => _ = black_box(proved::mark(given.desk.fork(), given.list())),
-            _ => _ = black_box(proved::load(&given.sheet, &mut workspace)),
+            0 => _ = black_box(plate::check_sheet(sheet)),
+            1 => _ = black_box(proved::check_sheet(sheet)),
+            2 => _ = black_box(baseline::make(sheet, &mut output, &mut workspace)),
+            3 => _ = black_box(proved::make(sheet, &mut output, &mut workspace)),
+            4 => _ = black_box(listing::listing(plate, &mut text)),
+            5 => _ = black_box(proved::listing(plate, &mut text)),
+            6 => _ = black_box(proved::read_plate(plate)),
+            7 => _ = black_box(proved::mark(given.desk.fork(), given.list())),
+            _ => _ = black_box(proved::load(sheet, &mut workspace)),
         }
     })
 }
 
-/// Prints the table of the other calls.
-fn print_calls([rust, check, read, mark, load]: [f64; 5]) {
-    println!("{:<27}{:>8}{:>8}{:>7}", "call", "Rust", "proved", "/Rust");
-    let ratio = check / rust;
-    println!("{:<27}{rust:>8.2}{check:>8.2}{ratio:>7.2}", "check_sheet");
+/// Prints a family's table of the other calls.
+fn print_calls(family: &str, [beside @ .., read, mark, load]: [f64; 9]) {
+    println!("{family:<27}{:>8}{:>8}{:>7}", "Rust", "proved", "/Rust");
+    let names = ["check_sheet", "make", "listing"];
+    for (name, pair) in names.iter().zip(beside.chunks(2)) {
+        let [rust, proved] = [pair[0], pair[1]];
+        let ratio = proved / rust;
+        println!("{name:<27}{rust:>8.2}{proved:>8.2}{ratio:>7.2}");
+    }
     for (name, time) in [("read_plate", read), ("mark", mark), ("load", load)] {
         println!("{name:<27}{:>8}{time:>8.2}", "");
     }
@@ -237,18 +259,22 @@ fn makers() -> usize {
     wrong
 }
 
-/// Times the other calls on dense sheets, and prints the table; how many sheets
-/// get a wrong answer.
+/// Times the other calls, and make beside them, on dense and on sparse sheets, and
+/// prints the tables; how many sheets get a wrong answer.
 fn other_calls() -> usize {
-    println!("Other calls, on the dense sheets of {MOST} points. read_plate: the plate that was");
-    println!("made. mark: that plate's inside list, at a desk with the sheet loaded; it is");
-    println!("valid, so every two points are tested. load: the sheet, at a fresh desk.");
-    println!();
-    let dense = families(MOST, SHEETS).find(|family| family.name == "dense");
-    let sheets = dense.expect("a family of that name").sheets.into_iter();
-    let given: Vec<Given> = sheets.map(Given::new).collect();
-    print_calls(call_times(&given));
-    given.iter().filter(|given| !given.accepted()).count()
+    println!("Other calls, on the dense and the sparse sheets of {MOST} points, and make again,");
+    println!("by turns with them. listing and read_plate: the plate that was made. mark: that");
+    println!("plate's inside list, at a desk with the sheet loaded; it is valid, so every two");
+    println!("points are tested. load: the sheet, at a fresh desk.");
+    let mut wrong = 0;
+    let timed = |family: &Family| ["dense", "sparse"].contains(&family.name);
+    for family in families(MOST, SHEETS).filter(timed) {
+        println!();
+        let given: Vec<Given> = family.sheets.into_iter().map(Given::new).collect();
+        print_calls(family.name, call_times(&given));
+        wrong += given.iter().filter(|given| !given.accepted()).count();
+    }
+    wrong
 }
 
 fn main() -> ExitCode {

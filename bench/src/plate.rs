@@ -12,7 +12,7 @@ pub const PLACES: usize = MOST + 2;
 
 /// The two-byte number at `at`.
 #[inline]
-fn number(sheet: &[u8], at: usize) -> u16 {
+pub fn number(sheet: &[u8], at: usize) -> u16 {
     u16::from_le_bytes([sheet[at], sheet[at + 1]])
 }
 

@@ -19,6 +19,11 @@ pub fn read_plate(plate: &[u8]) -> Option<&[u8]> {
     plates::read_plate(plate).ok()
 }
 
+/// Lists a plate; the text's length, if it fits.
+pub fn listing(plate: &[u8], text: &mut [u8]) -> Option<usize> {
+    plates::listing(plate, text).map(str::len)
+}
+
 /// A fresh desk after a load, and whether the sheet was accepted.
 pub fn load(sheet: &[u8], workspace: &mut [u16]) -> (Desk, bool) {
     let (desk, answer) = Desk::new().load(sheet, workspace);

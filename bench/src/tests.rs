@@ -1,11 +1,19 @@
-//! The makers against a search over all choices, by the conflicts of pairs. With
-//! the feature `proved` the proved library is one of the makers.
+//! The makers against a search over all choices, by the conflicts of pairs, and
+//! the listings against a text put together by `format!`. With the feature
+//! `proved` the proved library is one of them.
 
 use crate::plate::WORKSPACE;
 #[cfg(feature = "proved")]
 use crate::proved;
 use crate::sheets::{any, families, sheet, Random, SIZES};
-use crate::{baseline, masks};
+use crate::{baseline, listing, masks};
+
+type List = fn(&[u8], &mut [u8]) -> Option<usize>;
+const LISTINGS: &[List] = &[
+    listing::listing,
+    #[cfg(feature = "proved")]
+    proved::listing,
+];
 
 type Make = fn(&[u8], &mut [u8], &mut [u16]) -> Result<usize, u8>;
 const MAKERS: &[Make] = &[
@@ -97,17 +105,87 @@ fn count_of(sheet: &[u8], plate: &[u8]) -> u32 {
     inside.len() as u32
 }
 
+/// Document 01's P1.
+const P1: [u8; 28] = [
+    1, 20, 0, 10, 0, 4, 0, 2, 0, 3, 17, 0, 2, 0, 3, 0, 18, 0, 4, 0, 4, 0, 19, 0, 10, 0, 7, 0,
+];
+
 #[test]
 fn p1() {
-    let sheet = [
-        1, 20, 0, 10, 0, 4, 0, 2, 0, 3, 17, 0, 2, 0, 3, 0, 18, 0, 4, 0, 4, 0, 19, 0, 10, 0, 7, 0,
-    ];
     for make in MAKERS {
         for lent in workspaces() {
-            let plate = made(*make, &sheet, &lent).unwrap();
+            let plate = made(*make, &P1, &lent).unwrap();
             assert_eq!(plate[28..], [2, 1, 2, 1, 0, 0]);
         }
     }
+    let plate = [&P1[..], &[2, 1, 2, 1, 0, 0]].concat();
+    assert_lists(&plate, "plate 3 2 1\n17 out 0\n18 in\n19 in\n");
+}
+
+/// All listings of a plate are this text: in a buffer that is just as long, and
+/// in a longer one; one byte less is too short.
+fn assert_lists(plate: &[u8], text: &str) {
+    let length = text.len();
+    for list in LISTINGS {
+        let mut written = text.as_bytes().to_vec();
+        written.resize(listing::ROOM, 0xa5);
+        for room in [length, listing::ROOM] {
+            let mut output = vec![0xa5; listing::ROOM];
+            assert_eq!(list(plate, &mut output[..room]), Some(length));
+            assert_eq!(output, written);
+        }
+        let mut output = vec![0xa5; length - 1];
+        assert_eq!(list(plate, &mut output), None);
+        assert!(output.iter().all(|&byte| byte == 0xa5));
+    }
+}
+
+/// What document 01 says is printed of a plate.
+fn listing_of(plate: &[u8]) -> String {
+    let n = usize::from(plate[9]);
+    let sections = &plate[10 + 6 * n..];
+    let (inside, pairs) = sections[1..].split_at(usize::from(sections[0]));
+    let columns: Vec<&[u8]> = pairs[1..].chunks(2).collect();
+    let used = columns.iter().map(|pair| pair[1] + 1).max().unwrap_or(0);
+    let line = |i: usize| {
+        let call = u16::from_le_bytes([plate[10 + 6 * i], plate[11 + 6 * i]]);
+        match columns.iter().find(|pair| usize::from(pair[0]) == i) {
+            Some(pair) => format!("{call} out {}\n", pair[1]),
+            None => format!("{call} in\n"),
+        }
+    };
+    let lines: String = (0..n).map(line).collect();
+    format!("plate {n} {} {used}\n{lines}", inside.len())
+}
+
+#[test]
+fn listings() {
+    let mut random = Random::new(12);
+    let [zeros, ..] = workspaces();
+    for round in 0..4000 {
+        let draw = if round % 2 == 0 { any } else { tiny };
+        let bytes = draw(&mut random, round % 33);
+        let plate = made(baseline::make, &bytes, &zeros).unwrap();
+        assert_lists(&plate, &listing_of(&plate));
+    }
+}
+
+/// The longest listing of an accepted plate: 32 points outside, in as many margin
+/// columns, with call numbers of four digits.
+#[test]
+fn the_longest_listing() {
+    let mut plate = vec![1, 1, 0, 32, 0, 1, 0, 0, 1, 32]; // labels of 1 by 256
+    for i in 0..32 {
+        plate.extend((9000 + u16::from(i)).to_le_bytes());
+        plate.extend([0, 0, 31 - i, 0]);
+    }
+    plate.extend([0, 32]);
+    plate.extend((0..32).flat_map(|i| [i, i]));
+    let lines = (0..32).map(|i| format!("{} out {i}\n", 9000 + i));
+    let text = "plate 32 0 32\n".to_string() + &lines.collect::<String>();
+    assert_lists(&plate, &text);
+    #[cfg(feature = "proved")]
+    assert_eq!(proved::read_plate(&plate), Some(&[][..]));
 }
 
 /// A tiny map, where labels meet in every way.
