@@ -5,7 +5,7 @@
 use crate::lent::Content;
 use crate::report::Report;
 use crate::scripts::Calls;
-use crate::side_by_side::{check, making, must, printing, reading, same, session};
+use crate::side_by_side::{check, listing, making, must, printing, reading, same, session};
 use crate::side_by_side::{Buffers, Compared, Desks};
 use reference::random::sheet_bytes;
 use reference::script::{mark_line, LOAD, MARK};
@@ -21,7 +21,7 @@ pub struct Case {
     pub plates: &'static [(&'static [u8], u8)],
     /// Lists for a fresh desk with the sheet loaded, in this order, and the answers.
     pub lists: &'static [(&'static [u8], &'static str)],
-    /// What print_plate writes, if there is just one best choice.
+    /// The listing of a best plate, which print_plate writes, if there is just one best choice.
     pub listing: Option<&'static str>,
 }
 
@@ -157,6 +157,9 @@ impl Case {
         let plate = making(report, &sheet, buffers)?.ok_or("refused")?;
         let count = usize::from(plate[sheet.len()]);
         same("the inside count and the document's", count, self.best)?;
+        if let Some(wanted) = self.listing {
+            listing(report, &plate, wanted)?;
+        }
         for &(added, number) in self.plates {
             let own = reading(report, &self.plate(added))?;
             same("the reading and the document's", own, number)?;

@@ -26,6 +26,11 @@ pub fn exported_read(plate: &[u8]) -> (u32, u64, u64) {
     (read.number, read.inside_start, read.inside_count)
 }
 
+/// The listing of a plate; gives the text's length, if the buffer is long enough.
+pub fn listing(plate: &[u8], text: &mut [u8]) -> Option<usize> {
+    plates::listing(plate, text).map(str::len)
+}
+
 /// A desk.
 #[derive(Debug, PartialEq, Eq)]
 pub struct Desk(plates::Desk);

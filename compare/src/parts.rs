@@ -4,10 +4,10 @@
 use crate::damage::{aim_at_sheet, damage_list, damage_plate, damage_sheet};
 use crate::damage::{lengthen_much, once_in, wrap_counts};
 use crate::lent::Content;
-use crate::report::{Report, WRAPPED};
+use crate::report::{Report, NEVER_A_PLATE, WRAPPED};
 use crate::scripts::{script, script_to_52};
 use crate::sheets::{crowded_sheet, sheet, sheet_of, small_sheet};
-use crate::side_by_side::{check, making, printing, reading, same, session};
+use crate::side_by_side::{check, listing_of_no_plate, making, printing, reading, same, session};
 use crate::side_by_side::{Buffers, Compared, Desks};
 use reference::random::Random;
 use reference::{best_choice, Choice, Sheet, WORKSPACE_NUMBERS};
@@ -159,7 +159,7 @@ fn any_buffers(random: &mut Random, sheet: &[u8]) -> Buffers {
     }
 }
 
-/// A damaged sheet: checked, made, loaded.
+/// A damaged sheet: checked, made, loaded; and listed, though it is no plate.
 fn damaged_sheets(random: &mut Random, report: &mut Report) -> Compared {
     let mut bytes = match random.below(4) {
         0 => small_sheet(random),
@@ -168,8 +168,7 @@ fn damaged_sheets(random: &mut Random, report: &mut Report) -> Compared {
     };
     if once_in(random, 20) {
         // Bytes that were never a sheet.
-        let length = random.below(300);
-        bytes = (0..length).map(|_| random.below(256) as u8).collect();
+        bytes = random_bytes(random, 300);
         if let Some(first) = bytes.first_mut() {
             *first = 1;
         }
@@ -178,7 +177,14 @@ fn damaged_sheets(random: &mut Random, report: &mut Report) -> Compared {
     check(report, &bytes)?;
     let buffers = any_buffers(random, &bytes);
     making(report, &bytes, buffers)?;
+    listing_of_no_plate(report, &bytes)?;
     Desks::fresh().load(report, &bytes, buffers)
+}
+
+/// Random bytes, fewer than `limit`.
+fn random_bytes(random: &mut Random, limit: u16) -> Vec<u8> {
+    let length = random.below(limit);
+    (0..length).map(|_| random.below(256) as u8).collect()
 }
 
 /// A plate in which all but the choice is right.
@@ -238,6 +244,11 @@ fn damaged_plates(random: &mut Random, report: &mut Report) -> Compared {
             let number = random.between(11, 20) as u8;
             aim_at_sheet(random, &mut plate, number);
             report.feature("damaged sheets in plates");
+        }
+        5 => {
+            // Long enough for the sections of any count of points.
+            plate = random_bytes(random, 2500);
+            report.feature(NEVER_A_PLATE);
         }
         _ => damage_plate(random, &mut plate),
     }

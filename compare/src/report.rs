@@ -12,6 +12,7 @@ pub enum Call {
     Check,
     Make,
     Read,
+    List,
     Load,
     Mark,
     /// The printing of a sheet by the program print_plate.
@@ -22,10 +23,11 @@ pub enum Call {
     RunMark,
 }
 
-const CALLS: [Call; 8] = [
+const CALLS: [Call; 9] = [
     Call::Check,
     Call::Make,
     Call::Read,
+    Call::List,
     Call::Load,
     Call::Mark,
     Call::Print,
@@ -71,6 +73,7 @@ fn numbers_of(call: Call) -> Vec<u8> {
         Call::Check | Call::Print | Call::RunLoad => &[],
         Call::Make => &[21, 22],
         Call::Read => &[41, 42, 43, 44],
+        Call::List => return vec![0],
         Call::Load => &[22],
         Call::Mark | Call::RunMark => return vec![0, 31, 32, 33, 51, 52],
     };
@@ -86,8 +89,16 @@ pub const ONE_TOO_FEW: &str = "32,767, and refused with 22";
 /// Plates whose two counts, added as bytes, are n.
 pub const WRAPPED: &str = "plates with counts that add to n + 256";
 
+/// Plates of random bytes.
+pub const NEVER_A_PLATE: &str = "bytes that were never a plate";
+
 /// Refused plates, as the exported call has them.
 pub const EMPTY_START: &str = "refused plates with start 0, count 0";
+
+/// Listings that don't fit, and listings of bytes that are no plate.
+pub const LISTED_TOO_SHORT: &str = "listed: a buffer one byte too short";
+pub const LISTED_NO_PLATE: &str = "listed: bytes that are no plate";
+pub const LISTED_MANY: &str = "listed: more than 32 points";
 
 /// How the reference found a best count.
 pub const TRIED: &str = "bests by every choice, up to 12 points";
@@ -129,7 +140,7 @@ pub const PRINTED_PIECES: &str = "printed: an input in pieces";
 pub const SCRIPT_PIECES: &str = "scripts in pieces";
 
 /// Features that must have been seen.
-const FEATURES: [&str; 39] = [
+const FEATURES: [&str; 43] = [
     "best plates with every point inside",
     "best plates with points outside",
     TRIED,
@@ -145,6 +156,10 @@ const FEATURES: [&str; 39] = [
     "damaged sheets in plates",
     WRAPPED,
     EMPTY_START,
+    NEVER_A_PLATE,
+    LISTED_TOO_SHORT,
+    LISTED_NO_PLATE,
+    LISTED_MANY,
     "loads onto a loaded desk",
     "loads after number 9999",
     "printed: no margin column",

@@ -5,11 +5,13 @@ use crate::lent::{length_name, Content, Lent};
 use crate::library;
 use crate::programs::{self, Program};
 use crate::report::{Call, Report, Seen, EMPTY_START, ONE_TOO_FEW, OTHER_CHOICE, SEARCHED, TRIED};
+use crate::report::{LISTED_MANY, LISTED_NO_PLATE, LISTED_TOO_SHORT};
 use crate::report::{PRINTED_NOT_LAST, PRINTED_PIECES, SCRIPT_PIECES};
 use crate::scripts;
 use reference::margin::outside_pairs;
 use reference::search::TRY_ALL_POINTS;
 use reference::{margin_width, Choice, Marked, Sheet, WORKSPACE_NUMBERS};
+use std::fmt::Display;
 
 pub type Compared = Result<(), String>;
 
@@ -147,6 +149,7 @@ fn made_plate(report: &mut Report, bytes: &[u8], plate: &[u8]) -> Compared {
     let choice = choice_of_plate(plate).ok_or("the plate has no inside list")?;
     let wanted = reference::plate_bytes(&sheet, choice);
     same("the plate of its own choice", plate, &wanted[..])?;
+    listing(report, plate, &reference::listing(bytes, choice))?;
     let best = must_be_best(&sheet, choice)?;
     report.accepted(Call::Make, n);
     report.feature(way_to_best(n));
@@ -206,17 +209,61 @@ pub fn reading(report: &mut Report, plate: &[u8]) -> Result<u8, String> {
             same("the inside list", inside, reference.inside)?;
             same("the inside list's place", place(inside), start)?;
             report.accepted(Call::Read, plate[9].into());
+            let (sheet, choice) = (&plate[..start - 1], Choice::of(inside));
+            listing(report, plate, &reference::listing(sheet, choice))?;
         }
         Err(_) => {
             let (_, start, count) = exported;
             let empty = (start, count) == (0, 0);
             must(empty, "a refused plate doesn't hand back its empty start")?;
             report.feature(EMPTY_START);
+            listing_of_no_plate(report, plate)?;
         }
     }
     must(lent.untouched(), "the reading wrote to its plate")?;
     report.answered(Call::Read, number);
     Ok(number)
+}
+
+/// A listing into a buffer of this length. Gives the text, if the buffer was long enough.
+fn list_into(report: &mut Report, plate: &[u8], room: usize) -> Result<Option<Vec<u8>>, String> {
+    let lent = Lent::copy_of(plate, plate.len() % 3);
+    let mut text = Lent::output(room, room % 3);
+    let answer = library::listing(lent.part(), text.lend());
+    must(lent.untouched(), "the listing wrote to its plate")?;
+    let untouched = text.untouched_after(answer.unwrap_or(0));
+    must(untouched, "bytes beside the listing were touched")?;
+    report.answered(Call::List, 0);
+    Ok(answer.map(|length| text.part()[..length].to_vec()))
+}
+
+/// The listing of an accepted plate, in a buffer as long as the text, in a longer one, and in one
+/// that is a byte too short.
+pub fn listing(report: &mut Report, plate: &[u8], wanted: &str) -> Compared {
+    let length = wanted.len();
+    for room in [length, length + 1 + plate.len() % 40] {
+        let text = list_into(report, plate, room)?.unwrap_or_default();
+        same_text(format_args!("the listing in {room} bytes"), &text, wanted)?;
+    }
+    let none = list_into(report, plate, length - 1)?.is_none();
+    must(none, "a listing in a buffer that is a byte too short")?;
+    report.feature(LISTED_TOO_SHORT);
+    report.accepted(Call::List, plate[9].into());
+    Ok(())
+}
+
+/// The listing of bytes that are no plate. What it says isn't in document 01. It keeps to its buffer,
+/// and fits into one that is long enough for the count of points.
+pub fn listing_of_no_plate(report: &mut Report, bytes: &[u8]) -> Compared {
+    let n = bytes.get(9).copied().unwrap_or(0);
+    let some = list_into(report, bytes, 24 + 16 * usize::from(n))?.is_some();
+    must(some, "no listing in a buffer that is long enough")?;
+    list_into(report, bytes, bytes.len() % 40)?;
+    report.feature(LISTED_NO_PLATE);
+    if n > 32 {
+        report.feature(LISTED_MANY);
+    }
+    Ok(())
 }
 
 /// A desk of the library and one of the reference, which get the same calls.
@@ -361,13 +408,13 @@ pub fn session(report: &mut Report, pieces: &[&[u8]]) -> Result<String, String> 
     Ok(wanted)
 }
 
-/// Fails unless the program printed just this text. The message has the first line that differs.
-fn same_text(program: Program, printed: &[u8], wanted: &str) -> Compared {
-    if printed == wanted.as_bytes() {
+/// Fails unless this is just the wanted text. The message has the first line that differs.
+fn same_text(what: impl Display, text: &[u8], wanted: &str) -> Compared {
+    if text == wanted.as_bytes() {
         return Ok(());
     }
-    let printed = String::from_utf8_lossy(printed);
-    let mut lines = printed.split_inclusive('\n');
+    let text = String::from_utf8_lossy(text);
+    let mut lines = text.split_inclusive('\n');
     let mut wanted = wanted.split_inclusive('\n');
     let mut number = 1;
     loop {
@@ -375,8 +422,8 @@ fn same_text(program: Program, printed: &[u8], wanted: &str) -> Compared {
             (Some(line), Some(wanted)) if line == wanted => number += 1,
             (line, wanted) => {
                 let (line, wanted) = (shown(line), shown(wanted));
-                let differ = format!("it printed {line}, the reference has {wanted}");
-                return Err(format!("{program}, line {number}: {differ}"));
+                let differ = format!("{line}, and must be {wanted}");
+                return Err(format!("{what}: line {number} is {differ}"));
             }
         }
     }
