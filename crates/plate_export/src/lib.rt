@@ -1,7 +1,8 @@
 // The calls for other languages, over numbers, slices and plain structs. No byte of a struct is left unset: a spare field, always 0 in what
 // is returned, stands where C's alignment would leave some.
 ghost use mathlib.Core.Path.{_≡_};
-ghost use Rattle.format.specs.Sheet.{sheetNo};
+ghost use Prim.Native.Nat.{_+_, _*_};
+ghost use Rattle.format.specs.Sheet.{pointCount, sheetNo};
 ghost use Rattle.format.specs.MakingQuestions.{workspaceAfter};
 ghost use Rattle.desk.specs.Desk.{fresh, loadOf, markOf};
 ghost use Rattle.lines.specs.Listing.{listingOf};
@@ -89,7 +90,7 @@ pub extern "C" fn plate_read(plate: &[u8]) -> ReadResult
 // lines::listing: the length of the listing, 0 where the text is too short for it.
 #[no_mangle]
 pub extern "C" fn plate_listing(plate: &[u8], text: &mut [u8]) -> usize
-    ensures { λ r. ⌜ Prints 4104 (listingOf (now (plate .entry))) (now (text .entry)) r (now (text .exit)) ⌝ }
+    ensures { λ r. ⌜ Prints (24 + 16 * pointCount (now (plate .entry))) (listingOf (now (plate .entry))) (now (text .entry)) r (now (text .exit)) ⌝ }
 {
     lines::listing(plate, text)
 }
