@@ -13,8 +13,8 @@ use Rattle.labeling.specs.Tests.{decide}
 use Rattle.format.specs.Written.{written, writtenIfRoom, written-fits, written-none, written-more, written-twice, written-first}
 
 -- THE PROMISE of a public call that writes the text l into the buffer o: it answers the text's length and the text stands at the start
--- of the buffer, the bytes past it untouched; or the buffer is too short, nothing is written, and it answers 0. No text is empty, so 0
--- says nothing else. A buffer of `room` bytes isn't too short.
+-- of the buffer, the bytes past it untouched; or the buffer is too short, nothing is written, and it answers 0. No text is empty
+-- (NotEmpty.antt), so 0 says nothing else. A buffer of `room` bytes isn't too short.
 pub record Prints (room : ℕ) (l o : List ℕ) (answer : ℕ) (o′ : List ℕ) : Type 0 where
   pub fits : length l ≤ room
   pub answer-is : answer ≡ cond (leb (length l) (length o)) (length l) 0
