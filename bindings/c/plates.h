@@ -89,8 +89,8 @@ struct plate_read_result plate_read(const uint8_t *plate, size_t plate_len);
    empty. For a plate of n points 24 + 16n bytes are enough.
 
    No question is asked. Of bytes that are no plate the text says what stands
-   where a plate has its fields, 0 past the end: of up to 255 points, and 4,104
-   bytes are enough for that. */
+   where a plate has its fields, 0 past the end, and a point in neither section
+   is out in column 0: of up to 255 points, and 4,104 bytes are enough for that. */
 size_t plate_listing(const uint8_t *plate, size_t plate_len,
                      uint8_t *text, size_t text_len);
 

@@ -1,5 +1,6 @@
 /* What plates.h says of slices of count 0, of the structs' bytes, of a listing's
-   buffer and of a desk's fields. `bindings/run` builds and runs it; it prints what doesn't hold. */
+   buffer and of a desk's fields. `bindings/run` builds and runs it; it prints
+   what doesn't hold. */
 #include "plates.h"
 
 #include <stdio.h>

@@ -135,7 +135,7 @@ const WITH_VERDICT: [Call; 2] = [Call::Mark, Call::RunMark];
 /// count of margin columns than they have points outside.
 pub const PRINTED_NOT_LAST: &str = "printed: the last outside isn't leftmost";
 
-/// Inputs of the programs that come bit by bit.
+/// Inputs of the programs that come in pieces.
 pub const PRINTED_PIECES: &str = "printed: an input in pieces";
 pub const SCRIPT_PIECES: &str = "scripts in pieces";
 

@@ -40,7 +40,7 @@ pub point-none : (o p : List ℕ) (at : ℕ) → Put 0 o at (pointLines p 0) at 
 unfolding pointLines
 point-none o p at = record { fits = omega arith; next-is = omega arith; text-is = written-none o at }
 
--- A LINE COPIED, if it fits
+-- A TEXT COPIED, if it fits
 module _ {l o o′ : List ℕ} (e : o′ ≡ writtenIfRoom o 0 l) where
   pub copied-all : length l ≤ length o → Prints (length l) l o (length l) o′
   copied-all h = record { fits = le-refl (length l); answer-is = rw (le-leb (length l) (length o) h); buffer-is = e }

@@ -8,7 +8,7 @@ use lib.Seq.{getD-append-add}
 use borrow.Author.Tests.{ltb-true, ltb-false, lt-ltb, le-ltb}
 use native.Mathlib.Omega.{arith}
 use Rattle.labeling.specs.Tests.{decide, same}
-use Rattle.lines.specs.Text.{digit, decimalIn, decimal, spaced, readFrom, readDecimal}
+use Rattle.lines.specs.Text.{digit, decimalIn, decimal, readFrom, readDecimal}
 
 -- THE STEPS: a number below 10 is one digit, any other has its last digit at its end
 
@@ -98,7 +98,7 @@ decimal-right = by-digits InDecimal one-digit one-more
 
 -- HOW LONG: a number of 16 bits has at most 5 digits
 
-pub one-long : (n : ℕ) → n < 10 → length (decimal n) ≡ 1
+one-long : (n : ℕ) → n < 10 → length (decimal n) ≡ 1
 one-long n s = rw (decimal-small n s)
 
 pub one-longer : (n : ℕ) → 10 ≤ n → length (decimal n) ≡ length (decimal (n / 10)) + 1
@@ -114,7 +114,3 @@ pub decimal-length : (n : ℕ) → n < 65536 → length (decimal n) ≤ 5
 decimal-length n l =
     let one : (m : ℕ) → m < 10 → length (decimal m) ≤ 1 = λ m s. omega (arith, one-long m s) in
     longer 10000 4 (longer 1000 3 (longer 100 2 (longer 10 1 one (omega arith)) (omega arith)) (omega arith)) (omega arith) n (omega arith)
-
-pub spaced-length : (n : ℕ) → n < 65536 → length (spaced n) ≤ 6
-unfolding spaced
-spaced-length n l = omega (arith, decimal-length n l)

@@ -74,7 +74,7 @@ put-looser {a} {b} {o} {o₁} {l} {at} {m} h x =
     record { fits = omega arith; next-is = x .next-is; text-is = x .text-is }
 
 -- the text at the start
-pub put-text : {a : ℕ} {o o₁ l : List ℕ} {n : ℕ} → Put a o 0 l n o₁ → take n o₁ ≡ l
+put-text : {a : ℕ} {o o₁ l : List ℕ} {n : ℕ} → Put a o 0 l n o₁ → take n o₁ ≡ l
 put-text {a} {o} {o₁} {l} {n} x =
     let e : n ≡ length l = x .next-is ∙ zero-add (length l) in
     ap (take n) (x .text-is ∙ written-first o l) ∙ take-at l (drop (length l) o) n (sym e)

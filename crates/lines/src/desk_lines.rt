@@ -1,4 +1,4 @@
-// The line of a refusal, and of the desk's answers.
+// The lines of a refusal and of the desk's answers.
 use crate::text::put_decimal;
 use crate::text::put_end;
 use crate::text::put_number;

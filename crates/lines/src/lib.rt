@@ -43,55 +43,55 @@ fn line_room() -> [u8; LINE_ROOM]
 
 // The listing of a plate: points, inside count and margin columns used; then each point in sheet order. For n points 24 + 16 · n bytes are
 // enough.
-pub fn listing(plate: &[u8], text: &mut [u8]) -> usize
-    ensures { λ r. ⌜ Prints (24 + 16 * pointCount (now (plate .entry))) (listingOf (now (plate .entry))) (now (text .entry)) r (now (text .exit)) ⌝ }
+pub fn listing(plate: &[u8], buffer: &mut [u8]) -> usize
+    ensures { λ r. ⌜ Prints (24 + 16 * pointCount (now (plate .entry))) (listingOf (now (plate .entry))) (now (buffer .entry)) r (now (buffer .exit)) ⌝ }
 {
     let mut room = listing_room();
     let length = put_listing(&mut room, plate);
-    fit(&room[..length], text)
+    fit(&room[..length], buffer)
 }
 
 // The line of a refusal.
-pub fn refusal_line(number: u8, text: &mut [u8]) -> usize
-    ensures { λ r. ⌜ Prints 14 (refusalLine number) (now (text .entry)) r (now (text .exit)) ⌝ }
+pub fn refusal_line(number: u8, buffer: &mut [u8]) -> usize
+    ensures { λ r. ⌜ Prints 14 (refusalLine number) (now (buffer .entry)) r (now (buffer .exit)) ⌝ }
 {
     let mut room = line_room();
     let length = put_refusal(&mut room, number);
-    fit(&room[..length], text)
+    fit(&room[..length], buffer)
 }
 
-fn loaded_line(desk: Desk, text: &mut [u8]) -> usize
-    ensures { λ r. ⌜ Prints 19 (loadedLine desk) (now (text .entry)) r (now (text .exit)) ⌝ }
+fn loaded_line(desk: Desk, buffer: &mut [u8]) -> usize
+    ensures { λ r. ⌜ Prints 19 (loadedLine desk) (now (buffer .entry)) r (now (buffer .exit)) ⌝ }
 {
     let mut room = line_room();
     let length = put_loaded(&mut room, desk);
-    fit(&room[..length], text)
+    fit(&room[..length], buffer)
 }
 
-fn marked_line(number: u16, verdict: Verdict, text: &mut [u8]) -> usize
-    ensures { λ r. ⌜ Prints 31 (markedLine number verdict) (now (text .entry)) r (now (text .exit)) ⌝ }
+fn marked_line(number: u16, verdict: Verdict, buffer: &mut [u8]) -> usize
+    ensures { λ r. ⌜ Prints 31 (markedLine number verdict) (now (buffer .entry)) r (now (buffer .exit)) ⌝ }
 {
     let mut room = line_room();
     let length = put_marked(&mut room, number, verdict);
-    fit(&room[..length], text)
+    fit(&room[..length], buffer)
 }
 
 // The line of a load with this answer, which gave the desk.
-pub fn load_line(answer: LoadAnswer, desk: Desk, text: &mut [u8]) -> usize
-    ensures { λ r. ⌜ Prints 31 (loadLine answer desk) (now (text .entry)) r (now (text .exit)) ⌝ }
+pub fn load_line(answer: LoadAnswer, desk: Desk, buffer: &mut [u8]) -> usize
+    ensures { λ r. ⌜ Prints 31 (loadLine answer desk) (now (buffer .entry)) r (now (buffer .exit)) ⌝ }
 {
     match answer {
-        LoadAnswer::Accepted => loaded_line(desk, text),
-        LoadAnswer::Refused(number) => refusal_line(number, text),
+        LoadAnswer::Accepted => loaded_line(desk, buffer),
+        LoadAnswer::Refused(number) => refusal_line(number, buffer),
     }
 }
 
 // The line of a mark with this answer.
-pub fn mark_line(answer: MarkAnswer, text: &mut [u8]) -> usize
-    ensures { λ r. ⌜ Prints 31 (markLine answer) (now (text .entry)) r (now (text .exit)) ⌝ }
+pub fn mark_line(answer: MarkAnswer, buffer: &mut [u8]) -> usize
+    ensures { λ r. ⌜ Prints 31 (markLine answer) (now (buffer .entry)) r (now (buffer .exit)) ⌝ }
 {
     match answer {
-        MarkAnswer::Marked { number, verdict } => marked_line(number, verdict, text),
-        MarkAnswer::Refused(number) => refusal_line(number, text),
+        MarkAnswer::Marked { number, verdict } => marked_line(number, verdict, buffer),
+        MarkAnswer::Refused(number) => refusal_line(number, buffer),
     }
 }

@@ -59,13 +59,13 @@ pub(crate) fn put_end(text: &mut [u8], at: usize) -> usize
     put_word(text, at, b"\n")
 }
 
-// Copies a line into a lent buffer, if it fits.
-pub(crate) fn fit(line: &[u8], text: &mut [u8]) -> usize
-    ensures { λ r. ⌜ Prints (length (now (line .entry))) (now (line .entry)) (now (text .entry)) r (now (text .exit)) ⌝ }
+// Copies a text into a lent buffer, if it fits.
+pub(crate) fn fit(text: &[u8], buffer: &mut [u8]) -> usize
+    ensures { λ r. ⌜ Prints (length (now (text .entry))) (now (text .entry)) (now (buffer .entry)) r (now (buffer .exit)) ⌝ }
 {
-    copy_to(line, text, 0);
-    if text.len() < line.len() {
+    copy_to(text, buffer, 0);
+    if buffer.len() < text.len() {
         return 0;
     }
-    line.len()
+    text.len()
 }

@@ -87,12 +87,12 @@ pub extern "C" fn plate_read(plate: &[u8]) -> ReadResult
     }
 }
 
-// lines::listing: the length of the listing, 0 where the text is too short for it.
+// lines::listing: the length of the listing, 0 where the buffer is too short for it.
 #[no_mangle]
-pub extern "C" fn plate_listing(plate: &[u8], text: &mut [u8]) -> usize
-    ensures { λ r. ⌜ Prints (24 + 16 * pointCount (now (plate .entry))) (listingOf (now (plate .entry))) (now (text .entry)) r (now (text .exit)) ⌝ }
+pub extern "C" fn plate_listing(plate: &[u8], buffer: &mut [u8]) -> usize
+    ensures { λ r. ⌜ Prints (24 + 16 * pointCount (now (plate .entry))) (listingOf (now (plate .entry))) (now (buffer .entry)) r (now (buffer .exit)) ⌝ }
 {
-    lines::listing(plate, text)
+    lines::listing(plate, buffer)
 }
 
 // A desk, field for field that of the crate desk. The spare byte of a desk that comes in is ignored.

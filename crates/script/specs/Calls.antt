@@ -2,9 +2,9 @@
 -- that isn't a whole call says nothing more. Assumes nothing.
 use Prim.Native.Nat.{ℕ, _+_, _*_}
 use mathlib.Core.Path.{_≡_}
-use mathlib.Core.Bool.{Bool, true, _&&_, _||_}
+use mathlib.Core.Bool.{Bool, true, cond, _&&_, _||_}
 use mathlib.Core.List.{List}
-use lib.Dec.{leb}
+use lib.Dec.{ltb, leb}
 use Rattle.io.specs.Counts.{Counts}
 use Rattle.script.specs.declared.Kinds.{Kinds}
 use Rattle.script.specs.declared.Kinds.the-variants.{Desk, All}
@@ -31,12 +31,26 @@ isKind All kind = isBetween 1 2 kind || isBetween 11 12 kind
 abbrev pub numberIn : ℕ → ℕ → ℕ
 numberIn low high = low + 256 * high
 
+-- what a byte stands for where a call would start
+unfoldable pub kindOf : Kinds → ℕ → Kind
+kindOf kinds kind = cond (isKind kinds kind) (Known kind) Unknown
+
+-- a part of `count` bytes of which `got` were there is whole if none is missing
+unfoldable pub partOf : ℕ → ℕ → PartRead
+partOf count got = cond (ltb got count) Short (Whole count)
+
 -- a kind that is known is one of those asked for
 abbrev pub KindOf : Kinds → Kind → Type 0
 KindOf kinds (Known kind) = isKind kinds kind ≡ true
 KindOf kinds Unknown = Unit {0}
 KindOf kinds Kind.End = Unit {0}
 KindOf kinds Kind.Failed = Unit {0}
+
+-- a whole part has as many bytes as its length says, and stands at the start of the buffer
+abbrev pub PartOf : ℕ → List ℕ → PartRead → Type 0
+PartOf count buffer (Whole n) = (n ≡ count) × Counts n buffer
+PartOf count buffer Short = Unit {0}
+PartOf count buffer PartRead.Failed = Unit {0}
 
 -- a whole part stands at the start of the buffer
 abbrev pub PartIn : List ℕ → PartRead → Type 0

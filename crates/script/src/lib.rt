@@ -1,10 +1,10 @@
-// Reads a script from standard input, call by call. A call is a kind byte and one part: a two-byte length, low byte first, and that many
-// bytes.
+// Reads a script from standard input, call by call. A call is a kind byte and its parts, each a two-byte length, low byte first, and that
+// many bytes. Every kind here has one part.
 ghost use mathlib.Core.Path.{_≡_};
 ghost use Prim.Native.Nat.{_≤_};
 ghost use lib.ListN.{length};
-ghost use Rattle.script.specs.Calls.{CallIn, CallOf, KindOf, PartIn};
-ghost use Rattle.script.specs.Calls.{isBetween, isKind, numberIn};
+ghost use Rattle.script.specs.Calls.{CallIn, CallOf, KindOf, PartIn, PartOf};
+ghost use Rattle.script.specs.Calls.{isBetween, isKind, kindOf, numberIn, partOf};
 use streams::Input;
 use streams::read_input;
 
@@ -60,6 +60,16 @@ fn number_in(low: u8, high: u8) -> u16
     low as u16 + 256 * high as u16
 }
 
+// What a byte stands for where a call would start.
+fn kind_of(kinds: Kinds, kind: u8) -> Kind
+    ensures { λ r. ⌜ r ≡ kindOf kinds kind ⌝ }
+{
+    if is_kind(kinds, kind) {
+        return Kind::Known(kind);
+    }
+    Kind::Unknown
+}
+
 fn read_kind(kinds: Kinds) -> Kind
     ensures { λ r. ⌜ KindOf kinds r ⌝ }
 {
@@ -70,26 +80,30 @@ fn read_kind(kinds: Kinds) -> Kind
     if n == 0 {
         return Kind::End;
     }
-    let kind = bytes[0];
-    if is_kind(kinds, kind) {
-        return Kind::Known(kind);
+    kind_of(kinds, bytes[0])
+}
+
+// What became of a part of `count` bytes, of which `got` were there.
+fn part_of(count: u16, got: usize) -> PartRead
+    ensures { λ r. ⌜ r ≡ partOf count got ⌝ }
+{
+    let n = count as usize;
+    if got < n {
+        return PartRead::Short;
     }
-    Kind::Unknown
+    PartRead::Whole(count)
 }
 
 // A part's bytes, as many as its length says.
 fn read_bytes(count: u16, buffer: &mut [u8]) -> PartRead
     requires { ⌜ count ≤ length (now buffer) ⌝ }
-    ensures { λ r. ⌜ PartIn (now (buffer .exit)) r ⌝ }
+    ensures { λ r. ⌜ PartOf count (now (buffer .exit)) r ⌝ }
 {
     let n = count as usize;
     let Input::Read(got) = read_input(&mut buffer[..n]) else {
         return PartRead::Failed;
     };
-    if got < n {
-        return PartRead::Short;
-    }
-    PartRead::Whole(count)
+    part_of(count, got)
 }
 
 fn read_part(buffer: &mut [u8; 65536]) -> PartRead

@@ -2,7 +2,7 @@
 use borrow.Author.Needs.{needs}
 use mathlib.Core.Path.{sym}
 use lib.Seq.{length-take-le}
-use Rattle.streams.specs.Moves.{counts}
+use Rattle.script.proofs.Laws.{part-right}
 use Rattle.script.proofs.read_bytes.Statement.{statement}
 use Rattle.script.proofs.read_bytes.Tie as tie
 
@@ -27,17 +27,14 @@ same-length c = search needs
 returns : tie.Need-returns
 returns c = search needs
 
+part-of-requires : tie.Need-part-of-requires
+part-of-requires c κs = search needs
+
 same-length-2 : tie.Need-same-length-2
 same-length-2 c = search needs
 
 returns-2 : tie.Need-returns-2
-returns-2 c = search needs
-
-same-length-3 : tie.Need-same-length-3
-same-length-3 c = search needs
-
-returns-3 : tie.Need-returns-3
-returns-3 c = counts _ _ (search needs)
+returns-2 c = part-right _ _ _ _ (c .part-of .ensures) (search needs)
 
 pub read-bytes-spec : {M : Type 1} → statement M
 read-bytes-spec =
@@ -50,7 +47,6 @@ read-bytes-spec =
     enum-told
     same-length
     returns
+    part-of-requires
     same-length-2
-    returns-2
-    same-length-3
-    returns-3)
+    returns-2)

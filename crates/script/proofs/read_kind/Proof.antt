@@ -1,6 +1,6 @@
 -- `script::read_kind` meets its contract. Assumes nothing.
 use borrow.Author.Needs.{needs}
-use mathlib.Core.Path.{sym, _∙_}
+use Rattle.script.proofs.Laws.{kind-right}
 use Rattle.script.proofs.read_kind.Statement.{statement}
 use Rattle.script.proofs.read_kind.Tie as tie
 
@@ -22,17 +22,14 @@ returns c = search needs
 returns-2 : tie.Need-returns-2
 returns-2 c = search needs
 
-array-read-kind : tie.Need-array-read-kind
-array-read-kind c = search needs
+array-read-kind-of : tie.Need-array-read-kind-of
+array-read-kind-of c = search needs
 
-is-kind-requires : tie.Need-is-kind-requires
-is-kind-requires c κs = search needs
+kind-of-requires : tie.Need-kind-of-requires
+kind-of-requires c κs = search needs
 
 returns-3 : tie.Need-returns-3
-returns-3 c = sym (c .before .is-kind .ensures) ∙ c .if2 .taken
-
-returns-4 : tie.Need-returns-4
-returns-4 c = search needs
+returns-3 c = kind-right _ _ _ (c .kind-of .ensures)
 
 pub read-kind-spec : {M : Type 1} → statement M
 read-kind-spec =
@@ -44,7 +41,6 @@ read-kind-spec =
     enum-told
     returns
     returns-2
-    array-read-kind
-    is-kind-requires
-    returns-3
-    returns-4)
+    array-read-kind-of
+    kind-of-requires
+    returns-3)
