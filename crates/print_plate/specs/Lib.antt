@@ -1,2 +1,3 @@
 pub mod PrintedText
+pub mod PrintedStart
 pub mod PrintedCases

@@ -1,6 +1,6 @@
 // Prints the listing of a best plate of the sheet on standard input, or `refused` and the number of the first no. Where a read or a write
 // fails it stops, with a line on standard error.
-// A buffer of 4,096 bytes is enough for an input of any length: format/specs/Start.antt shows that the first 203 bytes decide.
+// A buffer of 4,096 bytes is enough for an input of any length: specs/PrintedStart.antt shows that the first 203 bytes decide the text.
 use lines::listing;
 use lines::refusal_line;
 use plate_maker::MakeAnswer;
