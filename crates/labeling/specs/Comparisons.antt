@@ -1,4 +1,4 @@
--- The tests of the recurrence as comparisons with two numbers for each point, which a program finds once for all states.
+-- The tests of the recurrence as comparisons with two numbers for each point, which a program finds once for all slabs.
 -- Assumes nothing.
 use mathlib.Core.Path.{_≡_, refl, ap}
 use mathlib.Core.Bool.{Bool, true, cond, not, _&&_, _||_}
@@ -7,10 +7,13 @@ use Prim.Native.Nat.{ℕ, zero, suc, _+_, _≤_, _<_}
 use lib.Dec.{ltb, leb, eqb}
 use borrow.Author.Tests.{lt-ltb, le-ltb, eq-eqb, ne-eqb}
 use native.Mathlib.Omega.{arith}
-use Rattle.labeling.specs.Tests.{decide, same, Decides, dec-lt, dec-le, dec-and, dec-not, dec-true}
-use Rattle.labeling.specs.Recurrence.{Heights, Point, Sorted, Overlap, overlaps, reachesOver, greatest, reachesAbove, reach, good}
-use Rattle.labeling.specs.RecurrenceTests.{less, dec-map, dec-unique, dec-if-le, dec-if-pos, greatest-le, greatest-is, greatest-most, Between, Good, dec-good, dec-overlaps, Reaches, dec-reaches, dec-above}
-use Rattle.labeling.specs.States.{reaches-overlaps, reaches-right, overlap-right-reaches}
+use Rattle.labeling.specs.Decide.{decide, same, Decides, dec-lt, dec-le, dec-and, dec-not}
+use Rattle.labeling.specs.Decide.{dec-true, less, dec-map, dec-unique, dec-if-le, dec-if-pos}
+use Rattle.labeling.specs.Recurrence.{Heights, Point, Sorted, Overlap, overlaps, reachesOver}
+use Rattle.labeling.specs.Recurrence.{greatest, reachesAbove, reach, mayBeInside}
+use Rattle.labeling.specs.RecurrenceTests.{greatest-le, greatest-is, greatest-most, Between, MayBeInside}
+use Rattle.labeling.specs.RecurrenceTests.{dec-may-be-inside, dec-overlaps, Reaches, dec-reaches, dec-above}
+use Rattle.labeling.specs.Slabs.{reaches-overlaps, reaches-right, overlap-right-reaches}
 
 -- THE LEAST
 
@@ -31,7 +34,8 @@ unfolding least
 least-is f d zero k = absurd (k refl)
 least-is f d (suc m) k =
     decide (f (suc m))
-    (λ e. rw e (same (least f (suc m) m) (suc m) (λ z. rw z (record { low = omega arith; high = omega arith; passes = e })) (λ ne. more (least-is f (suc m) m ne))))
+    (λ e. rw e (same (least f (suc m) m) (suc m) (λ z. rw z (record { low = omega arith; high = omega arith; passes = e }))
+    (λ ne. more (least-is f (suc m) m ne))))
     (λ e. rw e (more (least-is f d m (rw e at k))))
   where
     more : {i : ℕ} → Passes f m i → Passes f (suc m) i
@@ -41,7 +45,8 @@ least-is f d (suc m) k =
 pub least-le : (f : ℕ → Bool) (d m : ℕ) → m < d → least f d m ≤ d
 unfolding least
 least-le f d zero l = omega arith
-least-le f d (suc m) l = decide (f (suc m)) (λ k. rw k (omega (arith, least-le f (suc m) m (omega arith)))) (λ k. rw k (least-le f d m (omega arith)))
+least-le f d (suc m) l =
+    decide (f (suc m)) (λ k. rw k (omega (arith, least-le f (suc m) m (omega arith)))) (λ k. rw k (least-le f d m (omega arith)))
 
 -- None that passes is less.
 pub least-most : (f : ℕ → Bool) (d m i : ℕ) → Passes f m i → least f d m ≤ i
@@ -53,7 +58,8 @@ least-most f d (suc m) i k =
     (λ ne. least-most f (cond (f (suc m)) (suc m) d) m i (record { low = k .low; high = omega (arith, k .high); passes = k .passes }))
 
 -- A number that passes, or is d, and is more than none that passes, is the least.
-pub least-unique : (f : ℕ → Bool) (d m r : ℕ) → m < d → r ≤ d → ((r ≡ d → ⊥) → Passes f m r) → ((i : ℕ) → Passes f m i → r ≤ i) → least f d m ≡ r
+pub least-unique : (f : ℕ → Bool) (d m r : ℕ) → m < d → r ≤ d → ((r ≡ d → ⊥) → Passes f m r) → ((i : ℕ) → Passes f m i → r ≤ i)
+    → least f d m ≡ r
 least-unique f d m r l u p q =
     let x = least f d m in
     let b : x ≤ d = least-le f d m l in
@@ -68,7 +74,8 @@ greatest-unique f m r p q =
     less x r
     (λ y. let k = p (omega arith) in absurd (omega (arith, greatest-most f m r (k .high) (k .passes))))
     (λ y. less r x
-    (λ v. let l : 1 ≤ x = omega arith in absurd (omega (arith, q x (record { low = l; high = greatest-le f m; passes = greatest-is f m l }))))
+    (λ v.
+    let l : 1 ≤ x = omega arith in absurd (omega (arith, q x (record { low = l; high = greatest-le f m; passes = greatest-is f m l }))))
     (λ v. omega arith))
 
 -- THE TWO NUMBERS
@@ -130,10 +137,14 @@ module _ (H : Heights) where
           absurd (omega (arith, back, k .0)))
 
   -- No point above i and below b is right of i and overlaps it, exactly if high is at least b.
-  pub high-iff : (i b : ℕ) → b ≤ suc (H .n) → (b ≤ highOf H i) ↔ ((j : ℕ) → Point H j → i < j → j < b → H .rank i < H .rank j → Overlap H i j → ⊥)
+  pub high-iff : (i b : ℕ) → b ≤ suc (H .n)
+      → (b ≤ highOf H i) ↔ ((j : ℕ) → Point H j → i < j → j < b → H .rank i < H .rank j → Overlap H i j → ⊥)
   unfolding highOf
   high-iff i b m = (
-    λ l j k u v r o. omega (arith, least-most (overlapsAbove H i) (suc (H .n)) (H .n) j (record { low = k .low; high = k .high; passes = dec-high i j .of (u, (r, o)) })),
+    λ l j k u v r o. omega (
+      arith,
+      least-most (overlapsAbove H i) (suc (H .n)) (H .n) j (record { low = k .low; high = k .high; passes = dec-high i j .of (u, (r, o)) }),
+    ),
     λ f. less x b
         (λ v.
         let k = least-is (overlapsAbove H i) (suc (H .n)) (H .n) (λ z. omega arith) in
@@ -150,7 +161,8 @@ module _ {H : Heights} (L : Sorted H) where
   pub top-iff : (i a : ℕ) → Point H i → (topOf H i ≤ a) ↔ ((j : ℕ) → Point H j → a < j → j < i → H .rank i < H .rank j → Overlap H i j → ⊥)
   unfolding topOf
   top-iff i a p = (
-    λ l j k u v r o. omega (arith, greatest-most (reachesOver H i) (H .n) j (k .high) (dec-reaches H i j .of (overlap-right-reaches L i j p k v r o))),
+    λ l j k u v r o.
+        omega (arith, greatest-most (reachesOver H i) (H .n) j (k .high) (dec-reaches H i j .of (overlap-right-reaches L i j p k v r o))),
     λ f. less a x
         (λ u.
         let k : Point H x = record { low = omega arith; high = greatest-le (reachesOver H i) (H .n) } in
@@ -163,10 +175,16 @@ module _ {H : Heights} (L : Sorted H) where
       x = greatest (reachesOver H i) (H .n)
 
   -- WHETHER THE POINT OF RANK t IS GOOD, by comparisons.
-  pub good-compared : (t a b q : ℕ) → t < H .n → Between a (H .atRank t) b → b ≤ suc (H .n) → good H t a b q ≡ (H .allowed (H .atRank t) && (leb (topOf H (H .atRank t)) a && (leb b (highOf H (H .atRank t)) && ((ltb (H .n) b || leb (H .row (H .atRank t) + H .h) (H .row b)) && (eqb q 0 || not (overlaps H (H .atRank t) q))))))
-  good-compared t a b q l k m =
-      dec-unique (dec-good H t a b q)
-      (dec-map there back (dec-and (dec-true _) (dec-and (dec-le _ _) (dec-and (dec-le _ _) (dec-and (dec-if-le (H .n) b (dec-le _ _)) (dec-if-pos q (dec-not (dec-overlaps H p q))))))))
+  pub may-be-inside-compared : (t a b q : ℕ) → t < H .n → Between a (H .atRank t) b → b ≤ suc (H .n)
+      → mayBeInside H t a b q ≡ (H .allowed (H .atRank t) && (leb (topOf H (H .atRank t)) a
+      && (leb b (highOf H (H .atRank t))
+      && ((ltb (H .n) b || leb (H .row (H .atRank t) + H .h) (H .row b)) && (eqb q 0 || not (overlaps H (H .atRank t) q))))))
+  may-be-inside-compared t a b q l k m =
+      dec-unique (dec-may-be-inside H t a b q)
+      (dec-map there back
+      (dec-and (dec-true _)
+      (dec-and (dec-le _ _)
+      (dec-and (dec-le _ _) (dec-and (dec-if-le (H .n) b (dec-le _ _)) (dec-if-pos q (dec-not (dec-overlaps H p q))))))))
     where
       p : ℕ
       p = H .atRank t
@@ -175,19 +193,22 @@ module _ {H : Heights} (L : Sorted H) where
       e = L .rank-atRank t l
 
       Compared : Type 0
-      Compared = (H .allowed p ≡ true) × ((topOf H p ≤ a) × ((b ≤ highOf H p) × ((b ≤ H .n → H .row p + H .h ≤ H .row b) × (1 ≤ q → Overlap H p q → ⊥))))
+      Compared = (H .allowed p ≡ true) × ((topOf H p ≤ a)
+          × ((b ≤ highOf H p) × ((b ≤ H .n → H .row p + H .h ≤ H .row b) × (1 ≤ q → Overlap H p q → ⊥))))
 
-      there : Compared → Good H t a b q
+      there : Compared → MayBeInside H t a b q
       there x = record {
         allowed = x .0;
         top = x .1 .1 .1 .0;
         label = x .1 .1 .1 .1;
         others = λ j pj u v r o. less j p
             (λ y. top-iff p a (L .atRank-point t l) .0 (x .1 .0) j pj u y (omega (arith, e)) o)
-            (λ y. let ne : j ≡ p → ⊥ = λ z. omega (arith, e, ap (H .rank) z) in high-iff H p b m .0 (x .1 .1 .0) j pj (omega arith) v (omega (arith, e)) o);
+            (λ y.
+            let ne : j ≡ p → ⊥ = λ z. omega (arith, e, ap (H .rank) z) in
+            high-iff H p b m .0 (x .1 .1 .0) j pj (omega arith) v (omega (arith, e)) o);
       }
 
-      back : Good H t a b q → Compared
+      back : MayBeInside H t a b q → Compared
       back g = (
         g .allowed,
         (

@@ -9,7 +9,7 @@ use native.Mathlib.Omega.{arith}
 use Rattle.labeling.specs.Points.{Points, Choice, Distinct}
 use Rattle.labeling.specs.Marks.{Shared}
 use Rattle.labeling.specs.Conflicts.{Overlap, Hits, Conflict}
-use Rattle.labeling.specs.Tests.{decide, same}
+use Rattle.labeling.specs.Decide.{decide, same}
 use Rattle.labeling.specs.Pixels.{shared-iff-conflict}
 
 -- i stands before j in height order: by row, then by column, ascending.
@@ -59,7 +59,8 @@ conflict-iff-table P S i j pos u =
     (λ a. decide (S j) (λ b. rw (a, b) (λ o. upper-never P i j u o, λ o. absurd o)) (λ b. rw (a, b) (λ o. o, λ o. o)))
 
 -- (ii) TWO POINTS SHARE A MARKED PIXEL EXACTLY IF THE TABLE SAYS THAT THEY CONFLICT
-pub shared-iff-table : (P : Points) (S : Choice) (i j : ℕ) → 1 ≤ P .w → 1 ≤ P .h → i < P .n → j < P .n → Under P i j → Shared P S i j ↔ TableConflict P S i j
+pub shared-iff-table : (P : Points) (S : Choice) (i j : ℕ) → 1 ≤ P .w → 1 ≤ P .h → i < P .n → j < P .n → Under P i j
+    → Shared P S i j ↔ TableConflict P S i j
 shared-iff-table P S i j wide high l m u =
     let s = shared-iff-conflict P S i j wide l m in
     let t = conflict-iff-table P S i j high u in

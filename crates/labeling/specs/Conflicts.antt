@@ -8,10 +8,13 @@ use Rattle.labeling.specs.Points.{Points, Choice}
 
 -- The labels of i and j share a pixel.
 abbrev pub Overlap : Points → ℕ → ℕ → Type 0
-Overlap P i j = (P .column i < P .column j + P .w) × (P .column j < P .column i + P .w) × (P .row i < P .row j + P .h) × (P .row j < P .row i + P .h)
+Overlap P i j =
+    (P .column i < P .column j + P .w) × (P .column j < P .column i + P .w) × (P .row i < P .row j + P .h) × (P .row j < P .row i + P .h)
 
 abbrev pub overlapB : Points → ℕ → ℕ → Bool
-overlapB P i j = ltb (P .column i) (P .column j + P .w) && ltb (P .column j) (P .column i + P .w) && ltb (P .row i) (P .row j + P .h) && ltb (P .row j) (P .row i + P .h)
+overlapB P i j =
+    ltb (P .column i) (P .column j + P .w) && ltb (P .column j) (P .column i + P .w)
+    && ltb (P .row i) (P .row j + P .h) && ltb (P .row j) (P .row i + P .h)
 
 -- The label of i shares a pixel with the leader of j.
 abbrev pub Hits : Points → ℕ → ℕ → Type 0

@@ -2,14 +2,14 @@
 -- Assumes nothing.
 use mathlib.Core.Path.{_≡_, refl, sym, _∙_}
 use mathlib.Core.Bool.{Bool, true, false}
-use Prim.Native.Nat.{ℕ, zero, suc, _≤_, _<_, pred}
+use Prim.Native.Nat.{ℕ, zero, suc, _+_, _≤_, _<_, pred}
 use lib.Dec.{leb}
 use borrow.Author.Tests.{leb-true, leb-false, eq-eqb, ne-eqb}
 use native.Mathlib.Omega.{arith}
 use Rattle.labeling.specs.Points.{Points, Choice, DistinctRows}
 use Rattle.labeling.specs.Marks.{Valid}
 use Rattle.labeling.specs.Conflicts.{validB}
-use Rattle.labeling.specs.Tests.{decide, same}
+use Rattle.labeling.specs.Decide.{decide, same}
 use Rattle.labeling.specs.Pixels.{dec-valid, nothing-inside}
 use Rattle.labeling.specs.Best.{weight, count, oneEach, Best, Agree, put, bestFrom, best, bestCount, bestChoiceFrom, bestChoice}
 use Rattle.labeling.specs.Agree.{valid-agree, weight-agree}
@@ -22,25 +22,26 @@ pub put-off : (S : Choice) (k i : ℕ) (b : Bool) → (i ≡ k → ⊥) → put 
 unfolding put
 put-off S k i b ne = rw (ne-eqb i k ne)
 
--- R agrees with S from position m on
-abbrev pub From : Points → ℕ → Choice → Choice → Type 0
-From P m R S = (i : ℕ) → m ≤ i → i < P .n → R i ≡ S i
+-- R agrees with S below position k
+abbrev pub UpTo : ℕ → Choice → Choice → Type 0
+UpTo k R S = (i : ℕ) → i < k → R i ≡ S i
 
-pub from-put : (P : Points) (m : ℕ) (R S : Choice) (b : Bool) → R m ≡ b → From P (suc m) R S → From P m R (put S m b)
-from-put P m R S b e f i l u = same i m
-    (λ q. rw (q, put-at S m b) e)
-    (λ ne. f i (omega arith) u ∙ sym (put-off S m i b ne))
+pub up-to-put : (k : ℕ) (R S : Choice) (b : Bool) → R k ≡ b → UpTo k R S → UpTo (suc k) R (put S k b)
+up-to-put k R S b e f i l = same i k
+    (λ q. rw (q, put-at S k b) e)
+    (λ ne. f i (omega arith) ∙ sym (put-off S k i b ne))
 
-most-from : (P : Points) (v : ℕ → ℕ) (m : ℕ) (S R : Choice) → 1 ≤ P .w → Valid P R → From P m R S → weight P v R < bestFrom P v m S
+most-from : (P : Points) (v : ℕ → ℕ) (m k : ℕ) (S R : Choice) → 1 ≤ P .w → k + m ≡ P .n → Valid P R → UpTo k R S
+    → weight P v R < bestFrom P v m k S
 unfolding bestFrom
-most-from P v zero S R pos ok f =
-    let a : Agree P R S = record { at = λ i l. f i (omega arith) l } in
+most-from P v zero k S R pos n ok f =
+    let a : Agree P R S = record { at = λ i l. f i (omega arith) } in
     let e : validB P S ≡ true = dec-valid P S pos .of (valid-agree P R S a ok) in
     rw (e, weight-agree P v R S a) (omega arith)
-most-from P v (suc m) S R pos ok f =
-    decide (R m)
-    (λ e. let ih = most-from P v m (put S m true) R pos ok (from-put P m R S true e f) in omega arith)
-    (λ e. let ih = most-from P v m (put S m false) R pos ok (from-put P m R S false e f) in omega arith)
+most-from P v (suc m) k S R pos n ok f =
+    decide (R k)
+    (λ e. let ih = most-from P v m (suc k) (put S k true) R pos (omega arith) ok (up-to-put k R S true e f) in omega arith)
+    (λ e. let ih = most-from P v m (suc k) (put S k false) R pos (omega arith) ok (up-to-put k R S false e f) in omega arith)
 
 -- A valid choice whose weight is one less than t.
 pub record Reaches (P : Points) (v : ℕ → ℕ) (t : ℕ) : Type 0 where
@@ -49,39 +50,40 @@ pub record Reaches (P : Points) (v : ℕ → ℕ) (t : ℕ) : Type 0 where
   pub weighs : suc (weight P v choice) ≡ t
 
 -- bestChoiceFrom is valid and has the weight that bestFrom says
-chosen-from : (P : Points) (v : ℕ → ℕ) (m : ℕ) (S : Choice) → 1 ≤ P .w → 1 ≤ bestFrom P v m S → Valid P (bestChoiceFrom P v m S) × (suc (weight P v (bestChoiceFrom P v m S)) ≡ bestFrom P v m S)
+chosen-from : (P : Points) (v : ℕ → ℕ) (m k : ℕ) (S : Choice) → 1 ≤ P .w → 1 ≤ bestFrom P v m k S
+    → Valid P (bestChoiceFrom P v m k S) × (suc (weight P v (bestChoiceFrom P v m k S)) ≡ bestFrom P v m k S)
 unfolding bestFrom bestChoiceFrom
-chosen-from P v zero S pos l =
+chosen-from P v zero k S pos l =
     decide (validB P S)
     (λ e. (dec-valid P S pos .is e, rw e))
     (λ e. let z : 1 ≤ 0 = rw e at l in absurd (omega arith))
-chosen-from P v (suc m) S pos l =
+chosen-from P v (suc m) k S pos l =
     decide (leb y x)
     (λ e.
-    let k : y ≤ x = leb-true y x e in
-    let r = chosen-from P v m (put S m true) pos (omega arith) in
+    let a : y ≤ x = leb-true y x e in
+    let r = chosen-from P v m (suc k) (put S k true) pos (omega arith) in
     rw e (r .0, r .1 ∙ omega arith))
     (λ e.
-    let k : x < y = leb-false y x e in
-    let r = chosen-from P v m (put S m false) pos (omega arith) in
+    let a : x < y = leb-false y x e in
+    let r = chosen-from P v m (suc k) (put S k false) pos (omega arith) in
     rw e (r .0, r .1 ∙ omega arith))
   where
     x : ℕ
-    x = bestFrom P v m (put S m true)
+    x = bestFrom P v m (suc k) (put S k true)
 
     y : ℕ
-    y = bestFrom P v m (put S m false)
+    y = bestFrom P v m (suc k) (put S k false)
 
 -- NO VALID CHOICE EXCEEDS IT
 pub best-most : (P : Points) (v : ℕ → ℕ) (R : Choice) → 1 ≤ P .w → Valid P R → weight P v R < best P v
 unfolding best
-best-most P v R pos ok = most-from P v (P .n) (λ i. false) R pos ok (λ i l u. absurd (omega arith))
+best-most P v R pos ok = most-from P v (P .n) 0 (λ i. false) R pos (omega arith) ok (λ i l. absurd (omega arith))
 
 -- IT IS REACHED, unless it is 0: by bestChoice
 pub best-reached : (P : Points) (v : ℕ → ℕ) → 1 ≤ P .w → 1 ≤ best P v → Reaches P v (best P v)
 unfolding best bestChoice
 best-reached P v pos l =
-    let r = chosen-from P v (P .n) (λ i. false) pos l in record { choice = bestChoice P v; valid = r .0; weighs = r .1 }
+    let r = chosen-from P v (P .n) 0 (λ i. false) pos l in record { choice = bestChoice P v; valid = r .0; weighs = r .1 }
 
 -- and it is 0 just where no choice is valid
 pub best-none : (P : Points) (v : ℕ → ℕ) (R : Choice) → 1 ≤ P .w → best P v ≡ 0 → Valid P R → ⊥
@@ -95,7 +97,7 @@ best-is P v S pos ok e = record { valid = ok; most = λ R a. omega (arith, best-
 pub bestChoice-best : (P : Points) (v : ℕ → ℕ) → 1 ≤ P .w → 1 ≤ best P v → Best P v (bestChoice P v)
 unfolding best bestChoice
 bestChoice-best P v pos l =
-    let r = chosen-from P v (P .n) (λ i. false) pos l in best-is P v (bestChoice P v) pos (r .0) (r .1)
+    let r = chosen-from P v (P .n) 0 (λ i. false) pos l in best-is P v (bestChoice P v) pos (r .0) (r .1)
 
 -- a best choice has this weight
 pub best-of : (P : Points) (v : ℕ → ℕ) (S : Choice) → 1 ≤ P .w → Best P v S → best P v ≡ suc (weight P v S)

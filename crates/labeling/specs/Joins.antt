@@ -3,7 +3,8 @@ use mathlib.Core.Path.{_≡_, refl, sym, _∙_}
 use Prim.Native.Nat.{ℕ, zero, suc, _+_, _-_, _≤_, _<_, max}
 use native.Mathlib.Omega.{arith}
 use Rattle.labeling.specs.Recurrence.{plus, join}
-use Rattle.labeling.specs.RecurrenceTests.{less, plus-of, join-of}
+use Rattle.labeling.specs.Decide.{less}
+use Rattle.labeling.specs.RecurrenceTests.{plus-of, join-of}
 
 -- ONE MORE POINT
 
@@ -50,7 +51,8 @@ pub join-rises : (x y x′ y′ : ℕ) → x ≤ x′ → y ≤ y′ → join x 
 unfolding join
 join-rises zero y x′ y′ l m = omega arith
 join-rises (suc x) zero x′ y′ l m = omega (arith, join-none (suc x))
-join-rises (suc x) (suc y) x′ y′ l m = omega (arith, join-sum (suc x) (suc y) (omega arith) (omega arith), join-sum x′ y′ (omega arith) (omega arith))
+join-rises (suc x) (suc y) x′ y′ l m =
+    omega (arith, join-sum (suc x) (suc y) (omega arith) (omega arith), join-sum x′ y′ (omega arith) (omega arith))
 
 -- and a greater one to more, if there is something to join with.
 pub join-less : (x y z : ℕ) → 1 ≤ x → y < z → join x y < join x z
@@ -74,14 +76,24 @@ unfolding plus join
 join-plus-high w zero y = refl
 join-plus-high w (suc x) zero = rw (join-none (suc x)) (join-none (suc x))
 join-plus-high w (suc x) (suc y) =
-    omega (arith, join-sum (suc x) (w + suc y) (omega arith) (omega arith), join-sum (suc x) (suc y) (omega arith) (omega arith), plus-of w (join (suc x) (suc y)) (omega (arith, join-sum (suc x) (suc y) (omega arith) (omega arith))))
+    omega (
+      arith,
+      join-sum (suc x) (w + suc y) (omega arith) (omega arith),
+      join-sum (suc x) (suc y) (omega arith) (omega arith),
+      plus-of w (join (suc x) (suc y)) (omega (arith, join-sum (suc x) (suc y) (omega arith) (omega arith))),
+    )
 
 pub join-plus-low : (w x y : ℕ) → join (plus w x) y ≡ plus w (join x y)
 unfolding plus join
 join-plus-low w zero y = refl
 join-plus-low w (suc x) zero = rw (join-none (suc x)) (join-none (w + suc x))
 join-plus-low w (suc x) (suc y) =
-    omega (arith, join-sum (w + suc x) (suc y) (omega arith) (omega arith), join-sum (suc x) (suc y) (omega arith) (omega arith), plus-of w (join (suc x) (suc y)) (omega (arith, join-sum (suc x) (suc y) (omega arith) (omega arith))))
+    omega (
+      arith,
+      join-sum (w + suc x) (suc y) (omega arith) (omega arith),
+      join-sum (suc x) (suc y) (omega arith) (omega arith),
+      plus-of w (join (suc x) (suc y)) (omega (arith, join-sum (suc x) (suc y) (omega arith) (omega arith))),
+    )
 
 -- A point may be counted with either part.
 pub join-plus : (x w y : ℕ) → 1 ≤ x → join x (plus w y) ≡ join (x + w) y
@@ -98,7 +110,11 @@ join-assoc (suc x) (suc y) zero = rw (join-none (suc y), join-none (suc x)) (joi
 join-assoc (suc x) (suc y) (suc z) =
     let l = join-sum (suc x) (suc y) (omega arith) (omega arith) in
     let h = join-sum (suc y) (suc z) (omega arith) (omega arith) in
-    omega (arith, join-sum (join (suc x) (suc y)) (suc z) (omega arith) (omega arith), join-sum (suc x) (join (suc y) (suc z)) (omega arith) (omega arith))
+    omega (
+      arith,
+      join-sum (join (suc x) (suc y)) (suc z) (omega arith) (omega arith),
+      join-sum (suc x) (join (suc y) (suc z)) (omega arith) (omega arith),
+    )
 
 -- Three parts, as a program adds them.
 pub joins-low : (x y z : ℕ) → y ≡ 0 → 0 ≡ join x (join y z)

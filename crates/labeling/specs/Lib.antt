@@ -1,26 +1,34 @@
+-- WHAT A READER MUST BELIEVE: the margin rule, the pixels that a point marks, valid, and best. `best` computes, so it asks the test of
+-- Conflicts.
 pub mod Points
 pub mod Marks
 pub mod Conflicts
 pub mod Best
-pub mod Tests
+-- THEOREMS OVER PIXELS: conflicts are shared pixels, and the test of validity decides it (Pixels, ConflictTable); the outside list and the
+-- margin columns (Order, Margin); the best is reached and never exceeded (Greatest); single pixels (Looks).
 pub mod Margin
 pub mod Order
 pub mod Pixels
 pub mod ConflictTable
-pub mod Agree
 pub mod Greatest
-pub mod Only
 pub mod Looks
+-- THE OPTIMUM: the recurrence for points in height order, and that it is the best over pixels (Optimum, Positions). Safe are the points
+-- whose cut needn't be tried, and Comparisons the tests as a program makes them.
 pub mod Recurrence
+pub mod Optimum
+pub mod Positions
+pub mod Safe
+pub mod Comparisons
+-- BOOKKEEPING: cases and tests; choices that agree; a test for the only best choice; the halves of the optimum's proof, step by step.
+pub mod Decide
+pub mod Tests
+pub mod Agree
+pub mod Only
 pub mod RecurrenceTests
 pub mod Joins
-pub mod States
-pub mod Safe
+pub mod Slabs
 pub mod NoBetter
 pub mod Recovered
 pub mod Reached
 pub mod Totals
-pub mod Optimum
 pub mod Sums
-pub mod Positions
-pub mod Comparisons

@@ -6,9 +6,11 @@ use mathlib.Core.Bool.{Bool, true, false, not, cond, _&&_}
 use mathlib.Core.List.{List, [], _∷_}
 use Prim.Native.Nat.{ℕ}
 use lib.ListN.{getD}
-use Rattle.labeling.specs.Points.{Points, Choice, Pixel, atColumn, inMargin, before, insert, outsideBelow, outside, nextMargin, placedFrom, placed, marginIn, marginColumn}
+use Rattle.labeling.specs.Points.{Points, Choice, Pixel, atColumn, inMargin, before, insert, outsideBelow}
+use Rattle.labeling.specs.Points.{outside, nextMargin, placedFrom, placed, marginIn, marginColumn}
 use Rattle.labeling.specs.Marks.{Marks, marksB}
-use Rattle.labeling.specs.Tests.{and-left, and-right, Decides, dec-marks, dec-not}
+use Rattle.labeling.specs.Decide.{and-left, and-right, Decides, dec-not}
+use Rattle.labeling.specs.Tests.{dec-marks}
 
 -- Position `by` marks the pixel, or doesn't.
 pub record Look : Type 0 where
@@ -67,10 +69,12 @@ eight-looks : List Look
 eight-looks =
     -- the first, in margin column 0: a leader of columns 0 to 5, an outer label of columns -4 to -1 and rows 10 to 12
     marked 0 (atColumn 0 10) ∷ marked 0 (atColumn 5 10) ∷ unmarked 0 (atColumn 6 10) ∷ unmarked 0 (atColumn 0 11) ∷
-    marked 0 (inMargin 0 10) ∷ marked 0 (inMargin 3 12) ∷ unmarked 0 (inMargin 4 10) ∷ unmarked 0 (inMargin 0 13) ∷ unmarked 0 (inMargin 0 9) ∷
+    marked 0 (inMargin 0 10) ∷ marked 0 (inMargin 3 12) ∷ unmarked 0 (inMargin 4 10) ∷
+    unmarked 0 (inMargin 0 13) ∷ unmarked 0 (inMargin 0 9) ∷
     -- the third, in margin column 2: a leader of columns -8 to 2, an outer label of columns -12 to -9 and rows 7 to 9
     marked 2 (atColumn 2 7) ∷ unmarked 2 (atColumn 3 7) ∷ marked 2 (inMargin 0 7) ∷ marked 2 (inMargin 7 7) ∷ unmarked 2 (inMargin 7 8) ∷
-    marked 2 (inMargin 8 7) ∷ marked 2 (inMargin 11 9) ∷ unmarked 2 (inMargin 12 7) ∷ unmarked 2 (inMargin 8 10) ∷ unmarked 2 (inMargin 8 6) ∷
+    marked 2 (inMargin 8 7) ∷ marked 2 (inMargin 11 9) ∷ unmarked 2 (inMargin 12 7) ∷
+    unmarked 2 (inMargin 8 10) ∷ unmarked 2 (inMargin 8 6) ∷
     -- the fourth, inside: columns 9 to 12 and rows 6 to 8
     marked 3 (atColumn 9 6) ∷ marked 3 (atColumn 12 8) ∷ unmarked 3 (atColumn 8 6) ∷ unmarked 3 (atColumn 13 6) ∷
     unmarked 3 (atColumn 9 5) ∷ unmarked 3 (atColumn 9 9) ∷ unmarked 3 (inMargin 0 6) ∷ []

@@ -1,14 +1,13 @@
--- THE OPTIMUM: the choice that is recovered from the whole state has no conflicts, it weighs the value, and no choice weighs more.
+-- THE OPTIMUM: the choice that is recovered from the whole slab has no conflicts, it weighs the value, and no choice weighs more.
 -- Assumes nothing.
 use mathlib.Core.Path.{_≡_, refl, sym}
 use mathlib.Core.Bool.{Bool, false}
 use mathlib.Core.Logic.{_↔_}
 use Prim.Native.Nat.{ℕ, suc, _≤_, _<_}
 use native.Mathlib.Omega.{arith}
-use Rattle.labeling.specs.Tests.{not-both, same}
+use Rattle.labeling.specs.Decide.{not-both, same, less}
 use Rattle.labeling.specs.Recurrence.{Heights, Point, Sorted, Free, total, value, recovered}
-use Rattle.labeling.specs.RecurrenceTests.{less}
-use Rattle.labeling.specs.States.{Matches, overlap-sym, upper-misses}
+use Rattle.labeling.specs.Slabs.{Matches, overlap-sym, upper-misses}
 use Rattle.labeling.specs.NoBetter.{no-better}
 use Rattle.labeling.specs.Recovered.{Open, Follows, weighs}
 use Rattle.labeling.specs.Reached.{Known, is-q, is-right, NoConflicts, clean}
@@ -23,7 +22,7 @@ unfoldable pub chosen : Heights → ℕ → Bool
 chosen H = recovered H (H .n) 0 (suc (H .n)) 0
 
 module _ (H : Heights) (L : Sorted H) where
-  -- Every choice matches the whole state.
+  -- Every choice matches the whole slab.
   whole : (S : ℕ → Bool) → Matches H S (H .n) 0 (suc (H .n)) 0
   whole S = record {
     t-le = omega arith;
@@ -60,7 +59,12 @@ module _ (H : Heights) (L : Sorted H) where
   -- NO CHOICE WEIGHS MORE: the weight of a choice without conflicts is less than the optimum, which is one more than a weight.
   pub upper : (S : ℕ → Bool) → Free H S → total H S (H .n) < optimum H
   unfolding optimum
-  upper S ok = omega (arith, open-total L S, no-better L ok (H .n) 0 (suc (H .n)) 0 (whole S) (record { is = λ i e m. absurd (omega (arith, m .high)) }))
+  upper S ok =
+      omega (
+        arith,
+        open-total L S,
+        no-better L ok (H .n) 0 (suc (H .n)) 0 (whole S) (record { is = λ i e m. absurd (omega (arith, m .high)) }),
+      )
 
   -- THE RECOVERED CHOICE weighs one less than the optimum,
   pub exact : 1 ≤ optimum H → suc (total H (chosen H) (H .n)) ≡ optimum H
@@ -73,7 +77,8 @@ module _ (H : Heights) (L : Sorted H) where
       let c = whole-clean y in
       let o = open-point in
       record {
-        labels = λ i j pi pj ne e f x. less i j (λ l. c .both i j (o i pi) (o j pj) l e f x) (λ l. c .both j i (o j pj) (o i pi) (omega arith) f e (overlap-sym x));
+        labels = λ i j pi pj ne e f x.
+            less i j (λ l. c .both i j (o i pi) (o j pj) l e f x) (λ l. c .both j i (o j pj) (o i pi) (omega arith) f e (overlap-sym x));
         leaders = λ i j pi pj e f x. same i j (λ z. not-both e (rw z f)) (λ ne. less i j
             (λ l. c .leaders i j (o i pi) e l (omega (arith, pj .high)) pj f x)
             (λ l. upper-misses L i j pi pj (omega arith) x));

@@ -9,9 +9,10 @@ use Prim.Native.Nat.{ℕ, zero, suc, _+_, _≤_, _<_}
 use lib.Dec.{ltb}
 use lib.ListN.{length}
 use native.Mathlib.Omega.{arith}
-use Rattle.labeling.specs.Points.{Points, Choice, Distinct, before, insert, outsideBelow, outside, nextMargin, placedFrom, placed, marginIn, marginColumn}
-use Rattle.labeling.specs.Tests.{not-both, decide, same, Decides, dec-lt, dec-eq, dec-and, dec-or}
-use Rattle.labeling.specs.Margin.{among, among-head, among-tail, among-rest, among-none, outside-lists, margin-head, margin-tail}
+use Rattle.labeling.specs.Points.{Points, Choice, Distinct, before, insert, outsideBelow, outside}
+use Rattle.labeling.specs.Points.{nextMargin, placedFrom, placed, marginIn, marginColumn, among}
+use Rattle.labeling.specs.Decide.{not-both, decide, same, Decides, dec-lt, dec-eq, dec-and, dec-or}
+use Rattle.labeling.specs.Margin.{among-head, among-tail, among-rest, among-none, outside-lists, margin-head, margin-tail}
 use Rattle.labeling.specs.Best.{weightBelow, oneEach}
 
 -- The order as a fact.
@@ -68,7 +69,8 @@ outside-is P S (suc m) i e =
     (λ k. let r = outside-is P S m i (rw k at e) in (omega arith, r .1))
     (λ k. new k (insert-is P m i (outsideBelow P S m) (rw k at e)) (outside-is P S m i))
   where
-    new : S m ≡ false → (i ≡ m) ⊎ (among i (outsideBelow P S m) ≡ true) → (among i (outsideBelow P S m) ≡ true → (i < m) × (S i ≡ false)) → (i < suc m) × (S i ≡ false)
+    new : S m ≡ false → (i ≡ m) ⊎ (among i (outsideBelow P S m) ≡ true) → (among i (outsideBelow P S m) ≡ true → (i < m) × (S i ≡ false))
+        → (i < suc m) × (S i ≡ false)
     new k (inl q) ih = (omega arith, rw q k)
     new k (inr a) ih = let r = ih a in (omega arith, r .1)
 
@@ -81,7 +83,8 @@ abbrev pub Ordered : Points → List ℕ → Type 0
 Ordered P [] = Unit {0}
 Ordered P (j ∷ l) = First P j l × Ordered P l
 
-pub insert-ordered : (P : Points) (i : ℕ) (l : List ℕ) → ((x : ℕ) → among x l ≡ true → P .row i ≡ P .row x → P .column i ≡ P .column x → ⊥) → Ordered P l → Ordered P (insert P i l)
+pub insert-ordered : (P : Points) (i : ℕ) (l : List ℕ)
+    → ((x : ℕ) → among x l ≡ true → P .row i ≡ P .row x → P .column i ≡ P .column x → ⊥) → Ordered P l → Ordered P (insert P i l)
 unfolding insert
 insert-ordered P i [] d o = (λ x e. absurd (among-none x e), tt)
 insert-ordered P i (j ∷ l) d o =
@@ -122,26 +125,34 @@ outside-length P S (suc m) =
     decide (S m) (λ e. rw e (omega arith)) (λ e. rw e (omega (arith, insert-length P m (outsideBelow P S m))))
 
 -- a list in order is fixed by its members
-pub ordered-unique : (P : Points) (l k : List ℕ) → Ordered P l → Ordered P k → ((x : ℕ) → among x l ≡ true → among x k ≡ true) → ((x : ℕ) → among x k ≡ true → among x l ≡ true) → l ≡ k
+pub ordered-unique : (P : Points) (l k : List ℕ) → Ordered P l → Ordered P k
+    → ((x : ℕ) → among x l ≡ true → among x k ≡ true) → ((x : ℕ) → among x k ≡ true → among x l ≡ true) → l ≡ k
 ordered-unique P [] [] o q f g = refl
 ordered-unique P [] (j ∷ k) o q f g = absurd (among-none j (g j (among-head j j k refl)))
 ordered-unique P (i ∷ l) [] o q f g = absurd (among-none i (f i (among-head i i l refl)))
 ordered-unique P (i ∷ l) (j ∷ k) o q f g =
-    let e : i ≡ j = same i j (λ e. e) (λ ne. absurd (before-asym P i j (o .0 j (among-rest j i l (g j (among-head j j k refl)) (λ z. ne (sym z)))) (q .0 i (among-rest i j k (f i (among-head i i l refl)) ne)))) in
+    let e : i ≡ j =
+    same i j (λ e. e)
+    (λ ne. absurd (before-asym P i j (o .0 j (among-rest j i l (g j (among-head j j k refl)) (λ z. ne (sym z))))
+    (q .0 i (among-rest i j k (f i (among-head i i l refl)) ne)))) in
     let t : l ≡ k = ordered-unique P l k (o .1) (q .1)
-    (λ x a. among-rest x j k (f x (among-tail x i l a)) (λ z. before-asym P i i (rw (z ∙ sym e) at (o .0 x a)) (rw (z ∙ sym e) at (o .0 x a))))
+    (λ x a.
+    among-rest x j k (f x (among-tail x i l a)) (λ z. before-asym P i i (rw (z ∙ sym e) at (o .0 x a)) (rw (z ∙ sym e) at (o .0 x a))))
     (λ x a. among-rest x i l (g x (among-tail x j k a)) (λ z. before-asym P j j (rw (z ∙ e) at (q .0 x a)) (rw (z ∙ e) at (q .0 x a)))) in
     λ d. e d ∷ t d
 
 -- THE MARGIN COLUMNS WITHOUT A LIST
 
-first-zero : (P : Points) (i : ℕ) (l : List ℕ) → Ordered P l → among i l ≡ true → ((x : ℕ) → among x l ≡ true → Before P x i → ⊥) → marginIn i (placed P l) ≡ 0
+first-zero : (P : Points) (i : ℕ) (l : List ℕ) → Ordered P l → among i l ≡ true → ((x : ℕ) → among x l ≡ true → Before P x i → ⊥)
+    → marginIn i (placed P l) ≡ 0
 unfolding placed
 first-zero P i [] o a f = absurd (among-none i a)
 first-zero P i (j ∷ l) o a f =
     same i j (λ q. margin-head P j 0 i l q) (λ ne. absurd (f j (among-head j j l refl) (o .0 i (among-rest i j l a ne))))
 
-next-after : (P : Points) (m k i j : ℕ) (l : List ℕ) → Ordered P (m ∷ l) → among i (m ∷ l) ≡ true → among j (m ∷ l) ≡ true → Before P i j → ((x : ℕ) → among x (m ∷ l) ≡ true → Before P i x → Before P x j → ⊥) → marginIn j (placedFrom P m k l) ≡ nextMargin P i (marginIn i (placedFrom P m k l)) j
+next-after : (P : Points) (m k i j : ℕ) (l : List ℕ) → Ordered P (m ∷ l) → among i (m ∷ l) ≡ true
+    → among j (m ∷ l) ≡ true → Before P i j → ((x : ℕ) → among x (m ∷ l) ≡ true → Before P i x → Before P x j → ⊥)
+    → marginIn j (placedFrom P m k l) ≡ nextMargin P i (marginIn i (placedFrom P m k l)) j
 next-after P m k i j [] o a b u f =
     same i m (λ q. same j m
     (λ z. absurd (before-asym P i j u (rw (z ∙ sym q) (rw (z ∙ sym q) at u))))
@@ -155,11 +166,14 @@ next-after P m k i j (x ∷ l) o a b u f =
     same i m
     (λ q. same j x
     (λ z. rw (margin-head P m k i (x ∷ l) q, margin-tail P m k j x l nj, margin-head P x (nextMargin P m k x) j l z, q, z))
-    (λ nx. absurd (f x (among-tail x m (x ∷ l) (among-head x x l refl)) (rw q (o .0 x (among-head x x l refl))) (o .1 .0 j (among-rest j x l bj nx)))))
+    (λ nx. absurd (f x (among-tail x m (x ∷ l) (among-head x x l refl)) (rw q (o .0 x (among-head x x l refl)))
+    (o .1 .0 j (among-rest j x l bj nx)))))
     (λ ni. rw (margin-tail P m k i x l ni, margin-tail P m k j x l nj)
     (next-after P x _ i j l (o .1) (among-rest i m (x ∷ l) a ni) bj u (λ y c. f y (among-tail y m (x ∷ l) c)))))
 
-placed-next : (P : Points) (i j : ℕ) (l : List ℕ) → Ordered P l → among i l ≡ true → among j l ≡ true → Before P i j → ((x : ℕ) → among x l ≡ true → Before P i x → Before P x j → ⊥) → marginIn j (placed P l) ≡ nextMargin P i (marginIn i (placed P l)) j
+placed-next : (P : Points) (i j : ℕ) (l : List ℕ) → Ordered P l → among i l ≡ true → among j l ≡ true
+    → Before P i j → ((x : ℕ) → among x l ≡ true → Before P i x → Before P x j → ⊥)
+    → marginIn j (placed P l) ≡ nextMargin P i (marginIn i (placed P l)) j
 unfolding placed
 placed-next P i j [] o a b u f = absurd (among-none i a)
 placed-next P i j (m ∷ l) o a b u f = next-after P m 0 i j l o a b u f
@@ -173,8 +187,10 @@ module _ (P : Points) (S : Choice) (d : Distinct P) where
       (λ x e. let o = outside-is P S (P .n) x e in f x (o .0) (o .1))
 
   -- of two outside points with no outside point between, the second has the column next to the first's
-  pub margin-next : (i j : ℕ) → i < P .n → j < P .n → S i ≡ false → S j ≡ false → Before P i j → ((x : ℕ) → x < P .n → S x ≡ false → Before P i x → Before P x j → ⊥) → marginColumn P S j ≡ nextMargin P i (marginColumn P S i) j
+  pub margin-next : (i j : ℕ) → i < P .n → j < P .n → S i ≡ false → S j ≡ false → Before P i j
+      → ((x : ℕ) → x < P .n → S x ≡ false → Before P i x → Before P x j → ⊥) → marginColumn P S j ≡ nextMargin P i (marginColumn P S i) j
   unfolding marginColumn outside
   margin-next i j l m a b u f =
-      placed-next P i j (outsideBelow P S (P .n)) (outside-ordered P S (P .n) d (omega arith)) (outside-lists P S (P .n) i l a) (outside-lists P S (P .n) j m b) u
+      placed-next P i j (outsideBelow P S (P .n)) (outside-ordered P S (P .n) d (omega arith))
+      (outside-lists P S (P .n) i l a) (outside-lists P S (P .n) j m b) u
       (λ x e. let o = outside-is P S (P .n) x e in f x (o .0) (o .1))

@@ -9,7 +9,8 @@ use native.Mathlib.Omega.{arith}
 use Rattle.labeling.specs.Points.{Points, Choice, DistinctRows, Pixel, atColumn, inMargin, marginColumn}
 use Rattle.labeling.specs.Marks.{Label, Leader, Outer, Marks, Shared, Valid}
 use Rattle.labeling.specs.Conflicts.{Overlap, Hits, Conflict, Free, validB}
-use Rattle.labeling.specs.Tests.{decide, same, Decides, dec-free}
+use Rattle.labeling.specs.Decide.{decide, same, Decides}
+use Rattle.labeling.specs.Tests.{dec-free}
 use Rattle.labeling.specs.Margin.{lower-further}
 
 -- What an outside point in margin column k marks.
@@ -27,7 +28,8 @@ in-out P k i j (atColumn x y) a (inl b) = omega arith
 in-out P k i j (atColumn x y) a (inr b) = absurd b
 in-out P k i j (inMargin d y) a b = absurd a
 
-module _ (P : Points) (i j k m : ℕ) (i-over : P .row j < P .row i → P .row i < P .row j + P .h → k < m) (j-over : P .row i < P .row j → P .row j < P .row i + P .h → m < k) where
+module _ (P : Points) (i j k m : ℕ) (i-over : P .row j < P .row i → P .row i < P .row j + P .h → k < m)
+    (j-over : P .row i < P .row j → P .row j < P .row i + P .h → m < k) where
   -- the leader of i and the outer label of j
   leader-outer : (d y : ℕ) → Leader P k i (inMargin d y) → Outer P m j (inMargin d y) → P .row i ≡ P .row j
   leader-outer d y a b =
@@ -89,13 +91,15 @@ module _ (P : Points) (S : Choice) (i : ℕ) (p : Pixel) where
   outside-of e m = rw e m
 
 -- (i) outside points of different rows never share a pixel
-pub outside-apart : (P : Points) (S : Choice) (p : Pixel) (i j : ℕ) → i < P .n → j < P .n → S i ≡ false → S j ≡ false → Marks P S i p → Marks P S j p → P .row i ≡ P .row j
+pub outside-apart : (P : Points) (S : Choice) (p : Pixel) (i j : ℕ)
+    → i < P .n → j < P .n → S i ≡ false → S j ≡ false → Marks P S i p → Marks P S j p → P .row i ≡ P .row j
 outside-apart P S p i j l m a b x y =
     out-out P i j (marginColumn P S i) (marginColumn P S j) (lower-further P S i j l m a b) (lower-further P S j i m l b a) p
     (outside-is P S i p a x) (outside-is P S j p b y)
 
 -- (ii) two points share a marked pixel exactly if they conflict (ConflictTable.antt: by the table of height order)
-pub shared-conflict : (P : Points) (S : Choice) (p : Pixel) (i j : ℕ) → i < P .n → j < P .n → Marks P S i p → Marks P S j p → Conflict P S i j
+pub shared-conflict : (P : Points) (S : Choice) (p : Pixel) (i j : ℕ) → i < P .n → j < P .n → Marks P S i p → Marks P S j p
+    → Conflict P S i j
 unfolding Conflict
 shared-conflict P S p i j l m x y =
     decide (S i)

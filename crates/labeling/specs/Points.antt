@@ -1,6 +1,6 @@
 -- Points, pixels, choices, and the margin rule (document 01, "Marks and pixels"). Assumes nothing.
 use mathlib.Core.Path.{_≡_}
-use mathlib.Core.Bool.{Bool, cond, _&&_, _||_}
+use mathlib.Core.Bool.{Bool, false, cond, _&&_, _||_}
 use mathlib.Core.List.{List, [], _∷_}
 use Prim.Native.Nat.{ℕ, zero, suc, _+_, _<_}
 use lib.Dec.{ltb, eqb}
@@ -57,6 +57,11 @@ outsideBelow P S (suc m) = cond (S m) (outsideBelow P S m) (insert P m (outsideB
 -- The outside positions, in order.
 unfoldable pub outside : Points → Choice → List ℕ
 outside P S = outsideBelow P S (P .n)
+
+-- Position i is listed.
+unfoldable pub among : ℕ → List ℕ → Bool
+among i [] = false
+among i (j ∷ l) = eqb i j || among i l
 
 -- THE MARGIN RULE: "go through the outside points from the highest row down".
 

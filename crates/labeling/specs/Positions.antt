@@ -10,7 +10,7 @@ use Rattle.labeling.specs.Points.{Points, Choice}
 use Rattle.labeling.specs.Marks.{Valid}
 use Rattle.labeling.specs.Conflicts
 use Rattle.labeling.specs.Conflicts.{Conflict}
-use Rattle.labeling.specs.Tests.{not-both, decide, same, dec-eq}
+use Rattle.labeling.specs.Decide.{not-both, decide, same, dec-eq}
 use Rattle.labeling.specs.Pixels.{valid-iff-free}
 use Rattle.labeling.specs.Best.{weightBelow, weight, Best, best}
 use Rattle.labeling.specs.Greatest.{best-reached, best-is, best-unique}
@@ -20,8 +20,8 @@ use Rattle.labeling.specs.RecurrenceTests.{greatest-le, greatest-is, gre
 use Rattle.labeling.specs.Sums.{sum, sum-same, Lists, sum-listed}
 use Rattle.labeling.specs.Optimum.{optimum, chosen, upper, exact, sound}
 
--- H is P in height order: its point i is position `position i` of P, with weights v.
-pub record Arranged (P : Points) (v : ℕ → ℕ) (H : Heights) (position : ℕ → ℕ) : Type 0 where
+-- H is P in height order: its point i is position `position i` of P, with the weights v and the permissions f of the positions.
+pub record Arranged (P : Points) (v : ℕ → ℕ) (f : ℕ → Bool) (H : Heights) (position : ℕ → ℕ) : Type 0 where
   pub n : H .n ≡ P .n
   pub w : H .w ≡ P .w
   pub h : H .h ≡ P .h
@@ -31,14 +31,15 @@ pub record Arranged (P : Points) (v : ℕ → ℕ) (H : Heights) (position : ℕ
   pub column : (i : ℕ) → Point H i → H .column i ≡ P .column (position i)
   pub row : (i : ℕ) → Point H i → H .row i ≡ P .row (position i)
   pub weight : (i : ℕ) → Point H i → H .weight i ≡ v (position i)
+  pub allowed : (i : ℕ) → Point H i → H .allowed i ≡ f (position i)
 
 -- A choice R of positions and a choice S of points in height order are the same.
 pub record SameChoice (H : Heights) (position : ℕ → ℕ) (R S : ℕ → Bool) : Type 0 where
   pub at : (i : ℕ) → Point H i → R (position i) ≡ S i
 
--- Every point may be inside.
-pub record AllAllowed (H : Heights) : Type 0 where
-  pub allowed : (i : ℕ) → Point H i → H .allowed i ≡ true
+-- The permissions f keep no choice out: a position that is inside in a choice without conflicts is permitted.
+pub record Permits (P : Points) (f : ℕ → Bool) : Type 0 where
+  pub needed : (S : Choice) → Conflicts.Free P S → (p : ℕ) → p < P .n → S p ≡ true → f p ≡ true
 
 -- The point in height order at a position.
 unfoldable pub heightOf : Heights → (ℕ → ℕ) → ℕ → ℕ
@@ -48,7 +49,7 @@ heightOf H position p = greatest (λ i. eqb (position i) p) (H .n)
 unfoldable pub atPositions : Heights → (ℕ → ℕ) → (ℕ → Bool) → Choice
 atPositions H position S p = S (heightOf H position p)
 
-module _ {P : Points} {v : ℕ → ℕ} {H : Heights} {position : ℕ → ℕ} (A : Arranged P v H position) where
+module _ {P : Points} {v : ℕ → ℕ} {f : ℕ → Bool} {H : Heights} {position : ℕ → ℕ} (A : Arranged P v f H position) where
   -- CONFLICTS
 
   -- Two labels that share a pixel in height order do so as positions.
@@ -82,24 +83,24 @@ module _ {P : Points} {v : ℕ → ℕ} {H : Heights} {position : ℕ → ℕ} (
 
   -- FREE OF CONFLICTS
 
-  module _ (all : AllAllowed H) (R S : ℕ → Bool) (s : SameChoice H position R S) where
+  module _ (permits : Permits P f) (R S : ℕ → Bool) (s : SameChoice H position R S) where
     -- A choice of positions without conflicts is one of points in height order.
     free-there : Conflicts.Free P R → Recurrence.Free H S
     unfolding Conflict
-    free-there f = record {
+    free-there ok = record {
       labels = λ i j pi pj ne e g o. apart i j pi pj ne (rw (s .at i pi, s .at j pj, e, g) (overlap-there i j pi pj o));
       leaders = λ i j pi pj e g o. apart i j pi pj (λ z. not-both e (rw z g)) (rw (s .at i pi, s .at j pj, e, g) (hits-there i j pi pj o));
       rows = λ i j pi pj ne e g o. apart i j pi pj ne (rw (s .at i pi, s .at j pj, e, g) (sym (A .row i pi) ∙ (o ∙ A .row j pj)));
-      allowed = λ i pi e. all .allowed i pi;
+      allowed = λ i pi e. A .allowed i pi ∙ permits .needed R ok (position i) (A .below i pi) (s .at i pi ∙ e);
     }
       where
         apart : (i j : ℕ) → Point H i → Point H j → (i ≡ j → ⊥) → Conflict P R (position i) (position j) → ⊥
-        apart i j pi pj ne = f .apart (position i) (position j) (A .below i pi) (A .below j pj) (λ z. ne (A .once i j pi pj z))
+        apart i j pi pj ne = ok .apart (position i) (position j) (A .below i pi) (A .below j pj) (λ z. ne (A .once i j pi pj z))
 
     -- And the other way.
     free-back : Recurrence.Free H S → Conflicts.Free P R
     unfolding Conflict
-    free-back f = record {
+    free-back ok = record {
       apart = λ p q l m ne c.
           let x = A .each p l in
           let y = A .each q m in
@@ -110,11 +111,13 @@ module _ {P : Points} {v : ℕ → ℕ} {H : Heights} {position : ℕ → ℕ} (
         apart i j pi pj ne c =
             decide (S i)
             (λ e. decide (S j)
-            (λ g. f .labels i j pi pj ne e g (overlap-back i j pi pj (rw (s .at i pi, s .at j pj, e, g) at c)))
-            (λ g. f .leaders i j pi pj e g (hits-back i j pi pj (rw (s .at i pi, s .at j pj, e, g) at c))))
+            (λ g. ok .labels i j pi pj ne e g (overlap-back i j pi pj (rw (s .at i pi, s .at j pj, e, g) at c)))
+            (λ g. ok .leaders i j pi pj e g (hits-back i j pi pj (rw (s .at i pi, s .at j pj, e, g) at c))))
             (λ e. decide (S j)
-            (λ g. f .leaders j i pj pi g e (hits-back j i pj pi (rw (s .at i pi, s .at j pj, e, g) at c)))
-            (λ g. let o : P .row (position i) ≡ P .row (position j) = rw (s .at i pi, s .at j pj, e, g) at c in f .rows i j pi pj ne e g (A .row i pi ∙ (o ∙ sym (A .row j pj)))))
+            (λ g. ok .leaders j i pj pi g e (hits-back j i pj pi (rw (s .at i pi, s .at j pj, e, g) at c)))
+            (λ g.
+            let o : P .row (position i) ≡ P .row (position j) = rw (s .at i pi, s .at j pj, e, g) at c in
+            ok .rows i j pi pj ne e g (A .row i pi ∙ (o ∙ sym (A .row j pj)))))
 
     -- A CHOICE OF POSITIONS IS WITHOUT CONFLICTS exactly if it is so in height order;
     pub free-iff : Conflicts.Free P R ↔ Recurrence.Free H S
@@ -132,7 +135,9 @@ module _ {P : Points} {v : ℕ → ℕ} {H : Heights} {position : ℕ → ℕ} (
   listed : Lists (λ i. position (suc i)) (H .n) (P .n)
   listed = record {
     below = λ i l. A .below (suc i) (record { low = omega arith; high = l });
-    once = λ i j l m e. let z = A .once (suc i) (suc j) (record { low = omega arith; high = l }) (record { low = omega arith; high = m }) e in omega (arith, z);
+    once = λ i j l m e.
+        let z = A .once (suc i) (suc j) (record { low = omega arith; high = l }) (record { low = omega arith; high = m }) e in
+        omega (arith, z);
     each = λ p l. let x = A .each p l in before (x .0) (x .1) (x .2);
   }
     where
@@ -176,13 +181,13 @@ module _ {P : Points} {v : ℕ → ℕ} {H : Heights} {position : ℕ → ℕ} (
   height-position : (i : ℕ) → Point H i → heightOf H position (position i) ≡ i
   unfolding heightOf
   height-position i k =
-      let j = greatest f (H .n) in
-      let l : i ≤ j = greatest-most f (H .n) i (k .high) (dec-eq (position i) (position i) .of refl) in
-      let pj : Point H j = record { low = omega (arith, k .low); high = greatest-le f (H .n) } in
-      A .once j i pj k (dec-eq (position j) (position i) .is (greatest-is f (H .n) (pj .low)))
+      let j = greatest at (H .n) in
+      let l : i ≤ j = greatest-most at (H .n) i (k .high) (dec-eq (position i) (position i) .of refl) in
+      let pj : Point H j = record { low = omega (arith, k .low); high = greatest-le at (H .n) } in
+      A .once j i pj k (dec-eq (position j) (position i) .is (greatest-is at (H .n) (pj .low)))
     where
-      f : ℕ → Bool
-      f j = eqb (position j) (position i)
+      at : ℕ → Bool
+      at j = eqb (position j) (position i)
 
   -- A choice of points in height order is the same as its choice of positions.
   pub to-positions : (S : ℕ → Bool) → SameChoice H position (atPositions H position S) S
@@ -191,7 +196,7 @@ module _ {P : Points} {v : ℕ → ℕ} {H : Heights} {position : ℕ → ℕ} (
 
   -- THE THEOREM
 
-  module _ (L : Sorted H) (all : AllAllowed H) where
+  module _ (L : Sorted H) (permits : Permits P f) where
     -- A label has a width.
     width : 1 ≤ P .w
     width = omega (arith, A .w, L .w-pos)
@@ -201,11 +206,11 @@ module _ {P : Points} {v : ℕ → ℕ} {H : Heights} {position : ℕ → ℕ} (
     below-optimum R ok =
         let S : ℕ → Bool = λ i. R (position i) in
         let s = from-positions R in
-        omega (arith, weight-same R S s, upper H L S (valid-iff all R S s width .0 ok))
+        omega (arith, weight-same R S s, upper H L S (valid-iff permits R S s width .0 ok))
 
     -- A choice of positions that is the recovered one is valid.
     chosen-valid : 1 ≤ optimum H → (R : Choice) → SameChoice H position R (chosen H) → Valid P R
-    chosen-valid y R s = valid-iff all R (chosen H) s width .1 (sound H L y)
+    chosen-valid y R s = valid-iff permits R (chosen H) s width .1 (sound H L y)
 
     -- It weighs one less than the optimum.
     chosen-weighs : 1 ≤ optimum H → (R : Choice) → SameChoice H position R (chosen H) → suc (weight P v R) ≡ optimum H

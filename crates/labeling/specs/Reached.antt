@@ -4,11 +4,14 @@ use mathlib.Core.Path.{_≡_, refl, sym, _∙_, ap}
 use mathlib.Core.Bool.{Bool, true, false}
 use Prim.Native.Nat.{ℕ, zero, suc, _+_, _≤_, _<_}
 use native.Mathlib.Omega.{arith}
-use Rattle.labeling.specs.Tests.{not-both, decide, same}
+use Rattle.labeling.specs.Decide.{not-both, decide, same, less}
 use Rattle.labeling.specs.Recurrence.{Heights, Point, Sorted, Overlap, Hits, between, reach, value, takesIn}
-use Rattle.labeling.specs.RecurrenceTests.{less, Between, dec-between, Reaches, Reached, newer, older, nobody, reach-is, reach-newer, reach-older, Good, dec-good, dec-clear, value-skip}
-use Rattle.labeling.specs.States.{overlap-sym, rank-is, right-of, right-misses, ends-below, overlap-reaches, two-overlap, Matches, inner, match-same, match-low, match-high, reach-reaches}
-use Rattle.labeling.specs.Recovered.{Open, Follows, follow-skip, follow-in, taken-in, follow-low, follow-high, taken-out, takes-in, takes-out}
+use Rattle.labeling.specs.RecurrenceTests.{Between, dec-between, Reaches, Reached, newer, older, nobody, reach-is, reach-newer}
+use Rattle.labeling.specs.RecurrenceTests.{reach-older, MayBeInside, dec-may-be-inside, dec-rows-differ, value-skip}
+use Rattle.labeling.specs.Slabs.{overlap-sym, rank-is, right-of, right-misses, ends-below, overlap-reaches}
+use Rattle.labeling.specs.Slabs.{two-overlap, Matches, inner, match-same, match-low, match-high, reach-reaches}
+use Rattle.labeling.specs.Recovered.{Open, Follows, follow-skip, follow-in, taken-in}
+use Rattle.labeling.specs.Recovered.{follow-low, follow-high, taken-out, takes-in, takes-out}
 
 -- i is known to be inside: it is q, or strictly between a and b and of rank t or more.
 pub data Known (H : Heights) (t a b q i : ℕ) : Type 0 where
@@ -55,7 +58,8 @@ module _ {H : Heights} (L : Sorted H) {S : ℕ → Bool} {t a b q : ℕ} (s : Ma
     skip-known : (i : ℕ) → Known H t a b q i → Known H (suc t) a b q i
     skip-known i (is-q l e) = is-q l e
     skip-known i (is-right l u r) =
-        let ne : H .rank i ≡ t → ⊥ = λ z. let e : i ≡ H .atRank t = rank-is L t i (inner s i l u) z in nb (record { low = omega arith; high = omega arith }) in
+        let ne : H .rank i ≡ t → ⊥ =
+        λ z. let e : i ≡ H .atRank t = rank-is L t i (inner s i l u) z in nb (record { low = omega arith; high = omega arith }) in
         is-right l u (omega arith)
 
     -- So those that are known don't overlap.
@@ -78,7 +82,7 @@ module _ {H : Heights} (L : Sorted H) {S : ℕ → Bool} {t a b q : ℕ} (s : Ma
 
   -- THE POINT OF RANK t IS INSIDE
 
-  module _ (k : Between a (H .atRank t) b) (e : S (H .atRank t) ≡ true) (g : Good H t a b q) where
+  module _ (k : Between a (H .atRank t) b) (e : S (H .atRank t) ≡ true) (g : MayBeInside H t a b q) where
     -- It overlaps no point known to be inside.
     in-point : (i : ℕ) → Known H (suc t) a b q i → Overlap H (H .atRank t) i → ⊥
     in-point i (is-q l z) o = g .label l (rw z at o)
@@ -121,7 +125,8 @@ module _ {H : Heights} (L : Sorted H) {S : ℕ → Bool} {t a b q : ℕ} (s : Ma
       both = λ j i x y l z v o. open-or j x
           (λ j=p. open-or i y (λ i=p. omega arith) (λ y′. c .known i (H .atRank t) y′ v in-known (overlap-sym (rw j=p at o))))
           (λ x′. open-or i y (λ i=p. c .known j (H .atRank t) x′ z in-known (rw i=p at o)) (λ y′. c .both j i x′ y′ l z v o));
-      leaders = λ j i x z l u pi v o. open-or j x (λ j=p. in-leaders i (rw j=p at l) u pi v (rw j=p at o)) (λ x′. c .leaders j i x′ z l u pi v o);
+      leaders = λ j i x z l u pi v o.
+          open-or j x (λ j=p. in-leaders i (rw j=p at l) u pi v (rw j=p at o)) (λ x′. c .leaders j i x′ z l u pi v o);
       rows = λ j i x z l u pi v o. open-or j x (λ j=p. not-both e (rw (← j=p) z)) (λ x′. c .rows j i x′ z l u pi v o);
       allowed = λ j x z. open-or j x (λ j=p. rw j=p (g .allowed)) (λ x′. c .allowed j x′ z);
     }
@@ -167,14 +172,16 @@ module _ {H : Heights} (L : Sorted H) {S : ℕ → Bool} {t a b q : ℕ} (s : Ma
         let p = H .atRank t in
         let r = reach H a p q in
         same i r (λ y. y)
-        (λ ne. absurd (d .apart i r x (reach-known r (reach-is H a p q) z) ne (two-overlap L p i r pp m (reach-reaches L s r (reach-is H a p q) z))))
+        (λ ne. absurd (d .apart i r x (reach-known r (reach-is H a p q) z) ne
+        (two-overlap L p i r pp m (reach-reaches L s r (reach-is H a p q) z))))
 
     module _ (lo : NoConflicts H S t a (H .atRank t) q) (hi : NoConflicts H S t (H .atRank t) b (reach H a (H .atRank t) q)) where
       -- An open inside point below it ends below its row.
       low-ends : (j : ℕ) → Open H t a (H .atRank t) j → S j ≡ true → H .row j + H .h ≤ H .row (H .atRank t)
       low-ends j x z =
           let p = H .atRank t in
-          ends-below L j p (inner s j (x .low) (omega (arith, x .high, k .high))) pp (x .high) (omega (arith, x .left, rp)) (lo .leaders j p x z (x .high) (omega arith) pp e)
+          ends-below L j p (inner s j (x .low) (omega (arith, x .high, k .high))) pp (x .high)
+          (omega (arith, x .left, rp)) (lo .leaders j p x z (x .high) (omega arith) pp e)
 
       -- So it overlaps no point above.
       low-misses : (j i : ℕ) → Open H t a (H .atRank t) j → S j ≡ true → Point H i → H .atRank t < i → Overlap H j i → ⊥
@@ -190,7 +197,8 @@ module _ {H : Heights} (L : Sorted H) {S : ℕ → Bool} {t a b q : ℕ} (s : Ma
           g (record { low = omega arith; high = x .high; left = x .left }))
 
       -- An open inside point is open in one of the parts.
-      place-in : {X : Type 0} (j : ℕ) → Open H (suc t) a b j → S j ≡ true → (Open H t a (H .atRank t) j → X) → (Open H t (H .atRank t) b j → X) → X
+      place-in : {X : Type 0} (j : ℕ)
+          → Open H (suc t) a b j → S j ≡ true → (Open H t a (H .atRank t) j → X) → (Open H t (H .atRank t) b j → X) → X
       place-in j x z f g = open-or j x (λ j=p. absurd (not-both z (rw j=p e))) (λ x′. place j x′ f g)
 
       -- An open inside point above it overlaps no point known to be inside.
@@ -204,7 +212,8 @@ module _ {H : Heights} (L : Sorted H) {S : ℕ → Bool} {t a b q : ℕ} (s : Ma
           let cp = L .columns p a pp pa (omega (arith, rp, s .a-rank (pa .low))) in
           let rq : t < H .rank q = right-of L t q (s .t-le) pq (omega (arith, m .right)) in
           let o′ : Overlap H j q = rw n at o in
-          let mq = overlap-reaches L q p j pq pp pj (omega (arith, m .high, k .low)) (x .low) (omega (arith, rp)) (omega (arith, x .left, rp)) o′ in
+          let mq =
+          overlap-reaches L q p j pq pp pj (omega (arith, m .high, k .low)) (x .low) (omega (arith, rp)) (omega (arith, x .left, rp)) o′ in
           let w = reach-older H a p q mq in
           hi .known j q x z (is-q w (kept q (is-q l refl) mq w)) o′
       high-fixed j i x z (is-right l u r) o =
@@ -268,7 +277,8 @@ module _ {H : Heights} (L : Sorted H) {S : ℕ → Bool} {t a b q : ℕ} (s : Ma
       }
 
 -- A CHOICE THAT FOLLOWS THE RECOVERY HAS NO CONFLICTS.
-pub clean : {H : Heights} → Sorted H → {S : ℕ → Bool} (t a b q : ℕ) → 1 ≤ value H t a b q → Matches H S t a b q → Apart H t a b q → Follows H S t a b q → NoConflicts H S t a b q
+pub clean : {H : Heights} → Sorted H → {S : ℕ → Bool} (t a b q : ℕ) → 1 ≤ value H t a b q → Matches H S t a b q
+    → Apart H t a b q → Follows H S t a b q → NoConflicts H S t a b q
 clean {H} L {S} zero a b q y s d f = record {
   known = λ j i x. absurd (omega (arith, x .left));
   both = λ j i x. absurd (omega (arith, x .left));
@@ -286,15 +296,17 @@ clean {H} L {S} (suc t) a b q y s d f =
     (λ m.
     let z = taken-in L tn f e m in
     let n = takes-in y e m .0 in
-    let g = dec-good H t a b q .is (n .good) in
+    let g = dec-may-be-inside H t a b q .is (n .may-be-inside) in
     in-clean L s d k z g (clean L t a b q (n .rest) (match-same L s (λ _. z)) (in-apart L s d k z g) (follow-in L tn f e m)))
     (λ m.
     let z = taken-out L tn f e m in
     let n = takes-out y e m .0 in
-    let c = dec-clear H p b .is (n .clear) in
+    let c = dec-rows-differ H p b .is (n .differ) in
     out-clean L s d k z c
     (clean L t a p q (n .low) (match-low L s k z) (low-apart L s d k z c) (follow-low L tn f e m))
     (clean L t p b (reach H a p q) (n .high) (match-high L s k z) (high-apart L s d k z c) (follow-high L tn f e m))))
     (λ e.
     let nb : Between a p b → ⊥ = λ k. not-both (dec-between a p b .of k) e in
-    skip-clean L s d nb (clean L t a b q (omega (arith, value-skip H t a b q e)) (match-same L s (λ k. absurd (nb k))) (skip-apart L s d nb) (follow-skip L tn f e)))
+    skip-clean L s d nb
+    (clean L t a b q (omega (arith, value-skip H t a b q e)) (match-same L s (λ k. absurd (nb k)))
+    (skip-apart L s d nb) (follow-skip L tn f e)))

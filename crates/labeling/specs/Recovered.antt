@@ -1,4 +1,4 @@
--- A choice that follows the recovery weighs the value of the state; and what the recovery does down to a cut.
+-- A choice that follows the recovery weighs the value of the slab; and what the recovery does down to a cut.
 -- Assumes nothing.
 use mathlib.Core.Path.{_≡_, refl, sym, _∙_, ap}
 use mathlib.Core.Bool.{Bool, true, false, _&&_, _||_}
@@ -6,10 +6,13 @@ use Prim.Native.Nat.{ℕ, zero, suc, _≤_, _<_}
 use lib.Dec.{ltb, leb}
 use borrow.Author.Tests.{ltb-true, ltb-false, lt-ltb, le-ltb, le-leb, lt-leb, eq-eqb, ne-eqb}
 use native.Mathlib.Omega.{arith}
-use Rattle.labeling.specs.Tests.{decide, same, or-left, or-true, or-false, and-false}
-use Rattle.labeling.specs.Recurrence.{Heights, Point, Sorted, between, reach, value, outValue, inValue, takesIn, recovered, openWeight}
-use Rattle.labeling.specs.RecurrenceTests.{less, dec-between, CanOut, CanIn, value-zero, value-skip, value-step, out-of, out-is, in-of, in-is, recovered-skip, recovered-in, recovered-out, open-zero, open-skip, open-out, open-in}
-use Rattle.labeling.specs.States.{rank-is}
+use Rattle.labeling.specs.Decide.{decide, same, or-left, or-true, or-false, and-false, less}
+use Rattle.labeling.specs.Recurrence.{Heights, Point, Sorted, between, reach, value}
+use Rattle.labeling.specs.Recurrence.{outValue, inValue, takesIn, recovered, openWeight}
+use Rattle.labeling.specs.RecurrenceTests.{dec-between, CanOut, CanIn, value-zero, value-skip, value-step}
+use Rattle.labeling.specs.RecurrenceTests.{out-of, out-is, in-of, in-is, recovered-skip, recovered-in}
+use Rattle.labeling.specs.RecurrenceTests.{recovered-out, open-zero, open-skip, open-out, open-in}
+use Rattle.labeling.specs.Slabs.{rank-is}
 use Rattle.labeling.specs.Totals.{ltb-next}
 use Rattle.labeling.specs.NoBetter.{open-split}
 
@@ -26,7 +29,9 @@ pub record Follows (H : Heights) (S : ℕ → Bool) (t a b q : ℕ) : Type 0 whe
 module _ {H : Heights} (L : Sorted H) {S : ℕ → Bool} {t a b q : ℕ} (tn : t < H .n) (f : Follows H S (suc t) a b q) where
   -- The point of rank t isn't between: S follows the recovery with one rank less.
   pub follow-skip : between a (H .atRank t) b ≡ false → Follows H S t a b q
-  follow-skip e = record { does = λ j k. f .does j (record { low = k .low; high = k .high; left = omega (arith, k .left) }) ∙ recovered-skip H t a b q j e }
+  follow-skip e = record {
+    does = λ j k. f .does j (record { low = k .low; high = k .high; left = omega (arith, k .left) }) ∙ recovered-skip H t a b q j e;
+  }
 
   module _ (e : between a (H .atRank t) b ≡ true) where
     -- It is put inside.
@@ -36,7 +41,8 @@ module _ {H : Heights} (L : Sorted H) {S : ℕ → Bool} {t a b q : ℕ} (tn : t
       follow-in = record {
         does = λ j k.
             let ne : j ≡ H .atRank t → ⊥ = λ z. omega (arith, ap (H .rank) z, L .rank-atRank t tn, k .left) in
-            f .does j (record { low = k .low; high = k .high; left = omega (arith, k .left) }) ∙ rw (recovered-in H t a b q j e m, ne-eqb j (H .atRank t) ne);
+            f .does j (record { low = k .low; high = k .high; left = omega (arith, k .left) })
+            ∙ rw (recovered-in H t a b q j e m, ne-eqb j (H .atRank t) ne);
       }
 
       -- It is inside in S.
@@ -90,7 +96,8 @@ module _ {H : Heights} {t a b q : ℕ} (y : 1 ≤ value H (suc t) a b q) (e : be
       (out-is H t a b q (omega (arith, value-step H t a b q e)), omega (arith, value-step H t a b q e))
 
 -- THE WEIGHT of such a choice on the open points is the value, less one.
-pub weighs : {H : Heights} → Sorted H → (S : ℕ → Bool) (t a b q : ℕ) → t ≤ H .n → 1 ≤ value H t a b q → Follows H S t a b q → suc (openWeight H S t a b) ≡ value H t a b q
+pub weighs : {H : Heights} → Sorted H → (S : ℕ → Bool) (t a b q : ℕ) → t ≤ H .n → 1 ≤ value H t a b q → Follows H S t a b q
+    → suc (openWeight H S t a b) ≡ value H t a b q
 weighs {H} L S zero a b q l y f = omega (arith, open-zero H S a b, value-zero H a b q)
 weighs {H} L S (suc t) a b q l y f =
     let p = H .atRank t in
@@ -107,7 +114,12 @@ weighs {H} L S (suc t) a b q l y f =
     let ih₂ = weighs L S t p b r (omega arith) (g .0 .high) (follow-high L l f e m) in
     let o = taken-out L l f e m in
     omega (arith, ih₁, ih₂, open-out H S t a b o, open-split H S t a b p o (dec-between a p b .is e), out-of H t a b q (g .0), g .1)))
-    (λ e. omega (arith, open-skip H S t a b e, weighs L S t a b q (omega arith) (omega (arith, value-skip H t a b q e)) (follow-skip L l f e), value-skip H t a b q e))
+    (λ e. omega (
+      arith,
+      open-skip H S t a b e,
+      weighs L S t a b q (omega arith) (omega (arith, value-skip H t a b q e)) (follow-skip L l f e),
+      value-skip H t a b q e,
+    ))
 
 -- DOWN TO A CUT: the recovery takes in every point between a and b of rank k or more, and less than u.
 pub record TakesDown (H : Heights) (k u a b q : ℕ) : Type 0 where
@@ -116,7 +128,7 @@ pub record TakesDown (H : Heights) (k u a b q : ℕ) : Type 0 where
 fewer : {H : Heights} {k u a b q : ℕ} → TakesDown H k (suc u) a b q → TakesDown H k u a b q
 fewer f = record { takes = λ t l m. f .takes t l (omega arith) }
 
--- A state that has a choice has one with these inside.
+-- A slab that has a choice has one with these inside.
 pub value-down : {H : Heights} {k a b q : ℕ} (u : ℕ) → k ≤ u → TakesDown H k u a b q → 1 ≤ value H u a b q → 1 ≤ value H k a b q
 value-down {H} {k} {a} {b} {q} zero l f y = let z : k ≡ 0 = omega arith in rw z y
 value-down {H} {k} {a} {b} {q} (suc u) l f y =
@@ -140,13 +152,17 @@ module _ {H : Heights} (L : Sorted H) (k a b q : ℕ) {i : ℕ} (x : Point H i) 
       rw (z, none, and-false (between a i b)) (sym (or-false (recovered H k a b q i)))
 
   -- or one more.
-  down-next : (u : ℕ) → k ≤ u → u < H .n → (between a (H .atRank u) b ≡ true → takesIn H u a b q ≡ true) → Down H k u a b q i → Down H k (suc u) a b q i
+  down-next : (u : ℕ) → k ≤ u → u < H .n → (between a (H .atRank u) b ≡ true → takesIn H u a b q ≡ true) → Down H k u a b q i
+      → Down H k (suc u) a b q i
   down-next u l m f ih =
       let p = H .atRank u in
       let r : H .rank p ≡ u = L .rank-atRank u m in
       same i p
       (λ y. decide (between a p b)
-      (λ e. recovered-in H u a b q i e (f e) ∙ rw (eq-eqb i p y, y, e, le-leb k (H .rank p) (omega arith), lt-ltb (H .rank p) (suc u) (omega arith)) (sym (or-true (recovered H k a b q p))))
+      (λ e.
+      recovered-in H u a b q i e (f e)
+      ∙ rw (eq-eqb i p y, y, e, le-leb k (H .rank p) (omega arith), lt-ltb (H .rank p) (suc u) (omega arith))
+      (sym (or-true (recovered H k a b q p))))
       (λ e. recovered-skip H u a b q i e ∙ (ih ∙ rw (y, e))))
       (λ ne.
       let nr : H .rank i ≡ u → ⊥ = λ y. ne (rank-is L u i x y) in
@@ -159,4 +175,5 @@ module _ {H : Heights} (L : Sorted H) (k a b q : ℕ) {i : ℕ} (x : Point H i) 
   recovered-down zero l m f = down-none zero (omega arith)
   recovered-down (suc u) l m f =
       same k (suc u) (λ z. down-none (suc u) (sym z))
-      (λ ne. down-next u (omega arith) (omega arith) (f .takes u (omega arith) (omega arith)) (recovered-down u (omega arith) (omega arith) (fewer f)))
+      (λ ne. down-next u (omega arith) (omega arith) (f .takes u (omega arith) (omega arith))
+      (recovered-down u (omega arith) (omega arith) (fewer f)))

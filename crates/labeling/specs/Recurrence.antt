@@ -72,12 +72,14 @@ between a p b = ltb a p && ltb p b
 -- The labels of i and j share a pixel.
 unfoldable pub overlaps : Heights → ℕ → ℕ → Bool
 overlaps H i j =
-    ltb (H .column i) (H .column j + H .w) && (ltb (H .column j) (H .column i + H .w) && (ltb (H .row i) (H .row j + H .h) && ltb (H .row j) (H .row i + H .h)))
+    ltb (H .column i) (H .column j + H .w) && (ltb (H .column j) (H .column i + H .w)
+    && (ltb (H .row i) (H .row j + H .h) && ltb (H .row j) (H .row i + H .h)))
 
 -- The point i below p has a label that reaches over p's row, on the right of p (E(p)).
 unfoldable pub reachesOver : Heights → ℕ → ℕ → Bool
 reachesOver H p i =
-    leb 1 i && (ltb i p && (ltb (H .row p) (H .row i + H .h) && (ltb (H .column p) (H .column i) && ltb (H .column i) (H .column p + H .w))))
+    leb 1 i && (ltb i p && (ltb (H .row p) (H .row i + H .h)
+    && (ltb (H .column p) (H .column i) && ltb (H .column i) (H .column p + H .w))))
 
 -- The greatest i of 1 to m that passes, or 0.
 unfoldable pub greatest : (ℕ → Bool) → ℕ → ℕ
@@ -101,18 +103,20 @@ reach H a p q = let r = greatest (reachesAbove H a p) p in cond (eqb r 0) (cond 
 unfoldable pub bars : Heights → ℕ → ℕ → ℕ → ℕ → ℕ → Bool
 bars H t a b i j = ltb a j && (ltb j b && (ltb t (H .rank j) && overlaps H i j))
 
--- The point of rank t may be inside in the state (a, b, q): it is allowed; its label ends below b's leader, if b is a point; and it
+-- The point of rank t may be inside in the slab (a, b, q): it is allowed; its label ends below b's leader, if b is a point; and it
 -- overlaps neither q's label, if q isn't 0, nor the label of a point strictly between a and b that is right of it.
-unfoldable pub good : Heights → ℕ → ℕ → ℕ → ℕ → Bool
-good H t a b q =
+unfoldable pub mayBeInside : Heights → ℕ → ℕ → ℕ → ℕ → Bool
+mayBeInside H t a b q =
     let p = H .atRank t in
-    H .allowed p && ((ltb (H .n) b || leb (H .row p + H .h) (H .row b)) && ((eqb q 0 || not (overlaps H p q)) && everyPoint (λ j. not (bars H t a b p j)) (H .n)))
+    H .allowed p && ((ltb (H .n) b || leb (H .row p + H .h) (H .row b))
+    && ((eqb q 0 || not (overlaps H p q))
+    && everyPoint (λ j. not (bars H t a b p j)) (H .n)))
 
 -- p isn't in the row of b's leader.
-unfoldable pub clear : Heights → ℕ → ℕ → Bool
-clear H p b = ltb (H .n) b || not (eqb (H .row p) (H .row b))
+unfoldable pub rowsDiffer : Heights → ℕ → ℕ → Bool
+rowsDiffer H p b = ltb (H .n) b || not (eqb (H .row p) (H .row b))
 
--- VALUES: 0 where a state has no choice ("none"), and one more than the weight where it has.
+-- VALUES: 0 where a slab has no choice ("none"), and one more than the weight where it has.
 
 -- A value with one more point of weight x inside.
 unfoldable pub plus : ℕ → ℕ → ℕ
@@ -124,29 +128,31 @@ unfoldable pub join : ℕ → ℕ → ℕ
 join zero y = 0
 join (suc x) y = plus x y
 
--- THE RECURRENCE. In the state (a, b, q) the points strictly between a and b of rank t or more are inside; the value is that of the
+-- THE RECURRENCE. In the slab (a, b, q) the points strictly between a and b of rank t or more are inside; the value is that of the
 -- best choice of the others. q is 0, or the inside point below a whose label reaches over a.
 unfoldable pub value : Heights → ℕ → ℕ → ℕ → ℕ → ℕ
 value H zero a b q = 1
 value H (suc t) a b q =
     let p = H .atRank t in
     cond (between a p b)
-    (max (cond (clear H p b) (join (value H t a p q) (value H t p b (reach H a p q))) 0) (cond (good H t a b q) (plus (H .weight p) (value H t a b q)) 0))
+    (max
+    (cond (rowsDiffer H p b) (join (value H t a p q) (value H t p b (reach H a p q))) 0)
+    (cond (mayBeInside H t a b q) (plus (H .weight p) (value H t a b q)) 0))
     (value H t a b q)
 
 -- What the point of rank t gives outside, and inside.
 unfoldable pub outValue : Heights → ℕ → ℕ → ℕ → ℕ → ℕ
 outValue H t a b q =
-    let p = H .atRank t in cond (clear H p b) (join (value H t a p q) (value H t p b (reach H a p q))) 0
+    let p = H .atRank t in cond (rowsDiffer H p b) (join (value H t a p q) (value H t p b (reach H a p q))) 0
 
 unfoldable pub inValue : Heights → ℕ → ℕ → ℕ → ℕ → ℕ
-inValue H t a b q = cond (good H t a b q) (plus (H .weight (H .atRank t)) (value H t a b q)) 0
+inValue H t a b q = cond (mayBeInside H t a b q) (plus (H .weight (H .atRank t)) (value H t a b q)) 0
 
 -- The recovery puts the point of rank t inside: that gives more.
 unfoldable pub takesIn : Heights → ℕ → ℕ → ℕ → ℕ → Bool
 takesIn H t a b q = ltb (outValue H t a b q) (inValue H t a b q)
 
--- The recovered choice of the points below rank t in the state (a, b, q).
+-- The recovered choice of the points below rank t in the slab (a, b, q).
 unfoldable pub recovered : Heights → ℕ → ℕ → ℕ → ℕ → ℕ → Bool
 recovered H zero a b q i = false
 recovered H (suc t) a b q i =

@@ -1,64 +1,28 @@
 -- The tests of Recurrence.antt against the facts that they test, and one equation for each branch of its recursions.
 -- Assumes nothing.
-use mathlib.Core.Path.{_≡_, refl, sym, _∙_}
+use mathlib.Core.Path.{_≡_, refl}
 use mathlib.Core.Bool.{Bool, true, false, cond, not, _&&_, _||_}
 use Prim.Native.Nat.{ℕ, zero, suc, _+_, _≤_, _<_, max}
 use lib.Dec.{ltb, eqb}
-use borrow.Author.Tests.{ltb-true, ltb-false}
 use native.Mathlib.Omega.{arith}
-use Rattle.labeling.specs.Tests.{not-both, decide, same, Decides, dec-lt, dec-le, dec-eq, dec-and, dec-not, and-left, and-right, and-both, or-left, or-right, or-rest, dec-true}
-use Rattle.labeling.specs.Recurrence.{Heights, Point, Overlap, between, overlaps, reachesOver, greatest, everyPoint, reachesAbove, reach, bars, good, clear, plus, join, value, outValue, inValue, takesIn, recovered, openWeight}
+use Rattle.labeling.specs.Decide.{not-both, decide, same, Decides, dec-lt, dec-le, dec-eq, dec-true, dec-and}
+use Rattle.labeling.specs.Decide.{dec-not, and-left, and-right, and-both, dec-false, dec-map, dec-if-le, dec-if-pos}
+use Rattle.labeling.specs.Recurrence.{Heights, Point, Overlap, between, overlaps, reachesOver, greatest}
+use Rattle.labeling.specs.Recurrence.{everyPoint, reachesAbove, reach, bars, mayBeInside, rowsDiffer}
+use Rattle.labeling.specs.Recurrence.{plus, join, value, outValue, inValue, takesIn, recovered, openWeight}
 
--- TESTS IN GENERAL
-
--- Of two numbers, the first is less or it isn't.
-pub less {ℓ} : (i j : ℕ) {X : Type ℓ} → (i < j → X) → (j ≤ i → X) → X
-less i j f g = decide (ltb i j) (λ e. f (ltb-true i j e)) (λ e. g (ltb-false i j e))
-
--- A Bool that isn't true is false.
-pub false-of : (b : Bool) → (b ≡ true → ⊥) → b ≡ false
-false-of true f = absurd (f refl)
-false-of false f = refl
-
--- The test of a fact that doesn't hold is false.
-pub dec-false : {b : Bool} {A : Type 0} → Decides b A → (A → ⊥) → b ≡ false
-dec-false {b} d f = false-of b (λ e. f (d .is e))
-
--- What decides a fact decides each fact equivalent to it.
-pub dec-map : {b : Bool} {A B : Type 0} → (A → B) → (B → A) → Decides b A → Decides b B
-dec-map f g d = record { is = λ e. f (d .is e); of = λ x. d .of (g x) }
-
--- Two tests of one fact are equal.
-pub dec-unique : {a b : Bool} {A : Type 0} → Decides a A → Decides b A → a ≡ b
-dec-unique {a} {b} d e = decide a (λ x. x ∙ sym (e .of (d .is x))) (λ x. x ∙ sym (dec-false e (λ y. not-both (d .of y) x)))
-
--- A disjunction of tests decides that the second fact holds unless the first does.
-pub dec-unless : {a b : Bool} {A B : Type 0} → Decides a A → Decides b B → Decides (a || b) ((A → ⊥) → B)
-dec-unless {a} {b} d e = record {
-  is = λ x n. e .is (or-rest a b x (dec-false d n));
-  of = λ f. decide a (λ x. or-left a b x) (λ x. or-right a b (e .of (f (λ y. not-both (d .of y) x))));
-}
-
--- Recurrence.antt has two forms of it: the second fact holds if b ≤ n;
-pub dec-if-le : (n b : ℕ) {c : Bool} {C : Type 0} → Decides c C → Decides (ltb n b || c) (b ≤ n → C)
-dec-if-le n b e =
-    let g = dec-unless (dec-lt n b) e in
-    record { is = λ x l. g .is x (λ u. omega arith); of = λ f. g .of (λ u. let l : b ≤ n = omega arith in f l) }
-
--- the second fact holds if q isn't 0.
-pub dec-if-pos : (q : ℕ) {c : Bool} {C : Type 0} → Decides c C → Decides (eqb q 0 || c) (1 ≤ q → C)
-dec-if-pos q e =
-    let g = dec-unless (dec-eq q 0) e in
-    record { is = λ x l. g .is x (λ z. omega arith); of = λ f. g .of (λ z. let l : 1 ≤ q = omega arith in f l) }
+-- TESTS OF SEVERAL POINTS
 
 -- Every point passes exactly if the fact holds of every point.
-pub dec-every : (f : ℕ → Bool) (F : ℕ → Type 0) (m : ℕ) → ((i : ℕ) → Decides (f i) (F i)) → Decides (everyPoint f m) ((i : ℕ) → 1 ≤ i → i ≤ m → F i)
+pub dec-every : (f : ℕ → Bool) (F : ℕ → Type 0) (m : ℕ) → ((i : ℕ) → Decides (f i) (F i))
+    → Decides (everyPoint f m) ((i : ℕ) → 1 ≤ i → i ≤ m → F i)
 unfolding everyPoint
 dec-every f F m d = record { is = every-is m; of = every-of m }
   where
     every-is : (m : ℕ) → everyPoint f m ≡ true → (i : ℕ) → 1 ≤ i → i ≤ m → F i
     every-is zero e i l u = absurd (omega arith)
-    every-is (suc m) e i l u = same i (suc m) (λ k. rw k (d (suc m) .is (and-left _ _ e))) (λ k. every-is m (and-right (f (suc m)) _ e) i l (omega arith))
+    every-is (suc m) e i l u =
+        same i (suc m) (λ k. rw k (d (suc m) .is (and-left _ _ e))) (λ k. every-is m (and-right (f (suc m)) _ e) i l (omega arith))
 
     every-of : (m : ℕ) → ((i : ℕ) → 1 ≤ i → i ≤ m → F i) → everyPoint f m ≡ true
     every-of zero k = refl
@@ -116,8 +80,8 @@ pub data Reached (H : Heights) (a p q r : ℕ) : Type 0 where
   older : Reaches H p q → r ≡ q → Reached H a p q r
   nobody : r ≡ 0 → Reached H a p q r
 
--- The point of rank t may be inside in the state (a, b, q).
-pub record Good (H : Heights) (t a b q : ℕ) : Type 0 where
+-- The point of rank t may be inside in the slab (a, b, q).
+pub record MayBeInside (H : Heights) (t a b q : ℕ) : Type 0 where
   pub allowed : H .allowed (H .atRank t) ≡ true
   pub top : b ≤ H .n → H .row (H .atRank t) + H .h ≤ H .row b
   pub label : 1 ≤ q → Overlap H (H .atRank t) q → ⊥
@@ -148,20 +112,26 @@ module _ (H : Heights) where
   dec-bars t a b i j = dec-and (dec-lt _ _) (dec-and (dec-lt _ _) (dec-and (dec-lt _ _) (dec-overlaps i j)))
 
   -- `good` tests that the point of rank t may be inside.
-  pub dec-good : (t a b q : ℕ) → Decides (good H t a b q) (Good H t a b q)
-  unfolding good
-  dec-good t a b q =
+  pub dec-may-be-inside : (t a b q : ℕ) → Decides (mayBeInside H t a b q) (MayBeInside H t a b q)
+  unfolding mayBeInside
+  dec-may-be-inside t a b q =
       let p = H .atRank t in
       dec-map
-      (λ x. record { allowed = x .0; top = x .1 .0; label = x .1 .1 .0; others = λ j k l u r o. x .1 .1 .1 j (k .low) (k .high) (l, (u, (r, o))) })
-      (λ g. (g .allowed, (g .top, (g .label, λ j l u y. g .others j (record { low = l; high = u }) (y .0) (y .1 .0) (y .1 .1 .0) (y .1 .1 .1)))))
+      (λ x. record {
+        allowed = x .0;
+        top = x .1 .0;
+        label = x .1 .1 .0;
+        others = λ j k l u r o. x .1 .1 .1 j (k .low) (k .high) (l, (u, (r, o)));
+      })
+      (λ g.
+      (g .allowed, (g .top, (g .label, λ j l u y. g .others j (record { low = l; high = u }) (y .0) (y .1 .0) (y .1 .1 .0) (y .1 .1 .1)))))
       (dec-and (dec-true _) (dec-and (dec-if-le (H .n) b (dec-le _ _)) (dec-and (dec-if-pos q (dec-not (dec-overlaps p q)))
       (dec-every (λ j. not (bars H t a b p j)) _ (H .n) (λ j. dec-not (dec-bars t a b p j))))))
 
   -- `clear` tests that p isn't in the row of b, if b is a point.
-  pub dec-clear : (p b : ℕ) → Decides (clear H p b) (b ≤ H .n → H .row p ≡ H .row b → ⊥)
-  unfolding clear
-  dec-clear p b = dec-if-le (H .n) b (dec-not (dec-eq _ _))
+  pub dec-rows-differ : (p b : ℕ) → Decides (rowsDiffer H p b) (b ≤ H .n → H .row p ≡ H .row b → ⊥)
+  unfolding rowsDiffer
+  dec-rows-differ p b = dec-if-le (H .n) b (dec-not (dec-eq _ _))
 
   -- `reachesAbove` tests that i is above a and reaches over p.
   pub dec-above : (a p i : ℕ) → Decides (reachesAbove H a p i) ((a < i) × Reaches H p i)
@@ -174,7 +144,8 @@ module _ (H : Heights) where
   reach-is a p q =
       decide (eqb r 0)
       (λ e. rw e (decide (reachesOver H p q) (λ k. rw k (older (dec-reaches p q .is k) refl)) (λ k. rw k (nobody refl))))
-      (λ e. rw e (let ne : r ≡ 0 → ⊥ = λ z. not-both (dec-eq r 0 .of z) e in let k = dec-above a p r .is (greatest-is (reachesAbove H a p) p (omega arith)) in newer (k .1) (k .0)))
+      (λ e. rw e (let ne : r ≡ 0 → ⊥ = λ z. not-both (dec-eq r 0 .of z) e in
+      let k = dec-above a p r .is (greatest-is (reachesAbove H a p) p (omega arith)) in newer (k .1) (k .0)))
     where
       r : ℕ
       r = greatest (reachesAbove H a p) p
@@ -194,7 +165,8 @@ module _ (H : Heights) where
   pub reach-older : (a p q : ℕ) → Reaches H p q → 1 ≤ reach H a p q
   unfolding reach
   reach-older a p q k =
-      decide (eqb r 0) (λ e. rw (e, dec-reaches p q .of k) (k .low)) (λ e. rw e (let ne : r ≡ 0 → ⊥ = λ z. not-both (dec-eq r 0 .of z) e in omega arith))
+      decide (eqb r 0) (λ e. rw (e, dec-reaches p q .of k) (k .low))
+      (λ e. rw e (let ne : r ≡ 0 → ⊥ = λ z. not-both (dec-eq r 0 .of z) e in omega arith))
     where
       r : ℕ
       r = greatest (reachesAbove H a p) p
@@ -227,13 +199,13 @@ join-is (suc x) y l = (omega arith, plus-is x y l)
 
 -- The point of rank t can be outside: it isn't in b's row, and both parts have a choice.
 pub record CanOut (H : Heights) (t a b q : ℕ) : Type 0 where
-  pub clear : clear H (H .atRank t) b ≡ true
+  pub differ : rowsDiffer H (H .atRank t) b ≡ true
   pub low : 1 ≤ value H t a (H .atRank t) q
   pub high : 1 ≤ value H t (H .atRank t) b (reach H a (H .atRank t) q)
 
 -- The point of rank t can be inside: it is good, and the others have a choice.
 pub record CanIn (H : Heights) (t a b q : ℕ) : Type 0 where
-  pub good : good H t a b q ≡ true
+  pub may-be-inside : mayBeInside H t a b q ≡ true
   pub rest : 1 ≤ value H t a b q
 
 -- THE RECURRENCE, A BRANCH AT A TIME
@@ -255,29 +227,30 @@ module _ (H : Heights) (t a b q : ℕ) where
   value-step e = rw e
 
   -- What it gives outside is the sum of the two parts' values, less one.
-  pub out-of : CanOut H t a b q → suc (outValue H t a b q) ≡ value H t a (H .atRank t) q + value H t (H .atRank t) b (reach H a (H .atRank t) q)
+  pub out-of : CanOut H t a b q
+      → suc (outValue H t a b q) ≡ value H t a (H .atRank t) q + value H t (H .atRank t) b (reach H a (H .atRank t) q)
   unfolding outValue
-  out-of c = rw (c .clear) (join-of _ _ (c .low) (c .high))
+  out-of c = rw (c .differ) (join-of _ _ (c .low) (c .high))
 
   -- If that isn't 0, it can be outside.
   pub out-is : 1 ≤ outValue H t a b q → CanOut H t a b q
   unfolding outValue
   out-is l =
-      decide (clear H (H .atRank t) b)
-      (λ e. let m = join-is _ _ (rw e at l) in record { clear = e; low = m .0; high = m .1 })
+      decide (rowsDiffer H (H .atRank t) b)
+      (λ e. let m = join-is _ _ (rw e at l) in record { differ = e; low = m .0; high = m .1 })
       (λ e. let m : 1 ≤ 0 = rw e at l in absurd (omega arith))
 
   -- What it gives inside is its weight more than the value of the others.
   pub in-of : CanIn H t a b q → inValue H t a b q ≡ H .weight (H .atRank t) + value H t a b q
   unfolding inValue
-  in-of c = rw (c .good) (plus-of _ _ (c .rest))
+  in-of c = rw (c .may-be-inside) (plus-of _ _ (c .rest))
 
   -- If that isn't 0, it can be inside.
   pub in-is : 1 ≤ inValue H t a b q → CanIn H t a b q
   unfolding inValue
   in-is l =
-      decide (good H t a b q)
-      (λ e. record { good = e; rest = plus-is _ _ (rw e at l) })
+      decide (mayBeInside H t a b q)
+      (λ e. record { may-be-inside = e; rest = plus-is _ _ (rw e at l) })
       (λ e. let m : 1 ≤ 0 = rw e at l in absurd (omega arith))
 
 -- THE RECOVERY, A BRANCH AT A TIME
@@ -289,12 +262,16 @@ module _ (H : Heights) (t a b q i : ℕ) where
   recovered-skip e = rw e
 
   -- It is put inside, with the choice of the others.
-  pub recovered-in : between a (H .atRank t) b ≡ true → takesIn H t a b q ≡ true → recovered H (suc t) a b q i ≡ (eqb i (H .atRank t) || recovered H t a b q i)
+  pub recovered-in : between a (H .atRank t) b ≡ true → takesIn H t a b q ≡ true
+      → recovered H (suc t) a b q i ≡ (eqb i (H .atRank t) || recovered H t a b q i)
   unfolding recovered
   recovered-in e m = rw (e, m)
 
   -- It is left outside, with the choices of the parts below it and above it.
-  pub recovered-out : between a (H .atRank t) b ≡ true → takesIn H t a b q ≡ false → recovered H (suc t) a b q i ≡ cond (ltb i (H .atRank t)) (recovered H t a (H .atRank t) q i) (ltb (H .atRank t) i && recovered H t (H .atRank t) b (reach H a (H .atRank t) q) i)
+  pub recovered-out : between a (H .atRank t) b ≡ true → takesIn H t a b q ≡ false
+      → recovered H (suc t) a b q i
+      ≡ cond (ltb i (H .atRank t)) (recovered H t a (H .atRank t) q i) (ltb (H .atRank t) i &&
+      recovered H t (H .atRank t) b (reach H a (H .atRank t) q) i)
   unfolding recovered
   recovered-out e m = rw (e, m)
 
@@ -317,6 +294,7 @@ module _ (H : Heights) (S : ℕ → Bool) (t a b : ℕ) where
   open-out e = decide (between a (H .atRank t) b) (λ k. rw (k, e) (omega arith)) (λ k. rw k (omega arith))
 
   -- It adds its weight if it is between, and inside.
-  pub open-in : between a (H .atRank t) b ≡ true → S (H .atRank t) ≡ true → openWeight H S (suc t) a b ≡ H .weight (H .atRank t) + openWeight H S t a b
+  pub open-in : between a (H .atRank t) b ≡ true → S (H .atRank t) ≡ true
+      → openWeight H S (suc t) a b ≡ H .weight (H .atRank t) + openWeight H S t a b
   unfolding openWeight
   open-in e k = rw (e, k)

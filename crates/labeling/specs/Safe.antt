@@ -7,11 +7,15 @@ use Prim.Native.Nat.{ℕ, zero, suc, _≤_, _<_}
 use lib.Dec.{ltb}
 use borrow.Author.Tests.{lt-ltb, le-ltb}
 use native.Mathlib.Omega.{arith}
-use Rattle.labeling.specs.Tests.{decide, same, not-both, Decides, dec-lt, dec-and, dec-not}
-use Rattle.labeling.specs.Recurrence.{Heights, Point, Sorted, Overlap, between, everyPoint, reachesOver, reachesAbove, reach, good, clear, join, value, outValue, inValue}
-use Rattle.labeling.specs.RecurrenceTests.{less, dec-false, dec-map, dec-every, Between, dec-between, Reaches, dec-reaches, Reached, newer, older, nobody, reach-is, Good, dec-good, dec-clear, value-zero, value-skip, value-step, greatest-same}
-use Rattle.labeling.specs.Joins.{plus-rises, plus-more, join-none, join-last, join-rises, join-max-low, join-max-high, join-plus-low, join-plus-high, join-assoc}
-use Rattle.labeling.specs.States.{rank-is, right-of, overlap-reaches, reaches-overlaps}
+use Rattle.labeling.specs.Decide.{decide, same, not-both, Decides, dec-lt, dec-and, dec-not, less, dec-false, dec-map}
+use Rattle.labeling.specs.Recurrence.{Heights, Point, Sorted, Overlap, between, everyPoint, reachesOver}
+use Rattle.labeling.specs.Recurrence.{reachesAbove, reach, mayBeInside, rowsDiffer, join, value, outValue, inValue}
+use Rattle.labeling.specs.RecurrenceTests.{dec-every, Between, dec-between, Reaches, dec-reaches, Reached}
+use Rattle.labeling.specs.RecurrenceTests.{newer, older, nobody, reach-is, MayBeInside, dec-may-be-inside}
+use Rattle.labeling.specs.RecurrenceTests.{dec-rows-differ, value-zero, value-skip, value-step, greatest-same}
+use Rattle.labeling.specs.Joins.{plus-rises, plus-more, join-none, join-last, join-rises, join-max-low}
+use Rattle.labeling.specs.Joins.{join-max-high, join-plus-low, join-plus-high, join-assoc}
+use Rattle.labeling.specs.Slabs.{rank-is, right-of, overlap-reaches, reaches-overlaps}
 
 -- The label of p reaches over no point between p and b.
 pub record Unreached (H : Heights) (p b : ℕ) : Type 0 where
@@ -29,7 +33,7 @@ dec-unreached H p b u =
     (λ f y l m x. f .none y (x .0) (x .1 .0) (x .1 .1))
     (dec-every _ _ (H .n) (λ y. dec-not (dec-and (dec-lt p y) (dec-and (dec-lt y b) (dec-reaches H y p)))))
 
--- THE POINT OF RANK t IS SAFE in the state (a, b, q): it may be inside, and its label reaches over no point between it and b. (The state is
+-- THE POINT OF RANK t IS SAFE in the slab (a, b, q): it may be inside, and its label reaches over no point between it and b. (The slab is
 -- one that the recurrence meets: q is 0, or its label reaches over a; and a, if it is a point, is right of the point of rank t.)
 pub record Safe (H : Heights) (t a b q : ℕ) : Type 0 where
   pub ranked : t < H .n
@@ -37,7 +41,7 @@ pub record Safe (H : Heights) (t a b q : ℕ) : Type 0 where
   pub upper : b ≤ suc (H .n)
   pub over : 1 ≤ q → Reaches H a q
   pub lower-rank : 1 ≤ a → t < H .rank a
-  pub good : good H t a b q ≡ true
+  pub may-be-inside : mayBeInside H t a b q ≡ true
   pub unreached : Unreached H (H .atRank t) b
 
 -- THE PARTS OF A CUT AND THE WHOLE
@@ -46,7 +50,7 @@ pub record Safe (H : Heights) (t a b q : ℕ) : Type 0 where
 record Aside (H : Heights) (t p b j : ℕ) : Type 0 where
   pub apart : (y : ℕ) → p < y → y < b → H .rank y < t → Overlap H y j → ⊥
 
--- In the state (a, b, q) the points above p of rank less than t overlap neither p, nor the points below it of rank u or more, nor q.
+-- In the slab (a, b, q) the points above p of rank less than t overlap neither p, nor the points below it of rank u or more, nor q.
 record Beside (H : Heights) (t p u a b q : ℕ) : Type 0 where
   pub low : a < p
   pub high : p < b
@@ -66,7 +70,7 @@ module _ {H : Heights} (L : Sorted H) {t p : ℕ} (pp : Point H p) (rp : H .rank
   below-n : t < H .n
   below-n = omega (arith, L .rank-below p pp)
 
-  -- The point x of rank u, in a state (a, b, q); the claim is known below rank u.
+  -- The point x of rank u, in a slab (a, b, q); the claim is known below rank u.
   module _ (u : ℕ) (ut : u < t) (ih : Whole H t p u) {a b q : ℕ} (h : Beside H t p (suc u) a b q) (k : Between a (H .atRank u) b) where
     px : Point H (H .atRank u)
     px = L .atRank-point u (omega (arith, below-n))
@@ -87,10 +91,10 @@ module _ {H : Heights} (L : Sorted H) {t p : ℕ} (pp : Point H p) (rp : H .rank
       rows-up j l v = same j p (λ z. rw z (omega arith)) (λ ne. L .rows p j pp (record { low = omega arith; high = v }) (omega arith))
 
       -- It may be inside below p: its label ends below p's row, so it may be inside in the whole.
-      good-low : good H u a p q ≡ true → good H u a b q ≡ true
-      good-low e =
-          let g : Good H u a p q = dec-good H u a p q .is e in
-          dec-good H u a b q .of (record {
+      inside-low : mayBeInside H u a p q ≡ true → mayBeInside H u a b q ≡ true
+      inside-low e =
+          let g : MayBeInside H u a p q = dec-may-be-inside H u a p q .is e in
+          dec-may-be-inside H u a b q .of (record {
             allowed = g .allowed;
             top = λ l. omega (arith, g .top (pp .high), rows-up b (omega (arith, h .high)) l);
             label = g .label;
@@ -98,22 +102,32 @@ module _ {H : Heights} (L : Sorted H) {t p : ℕ} (pp : Point H p) (rp : H .rank
                 (λ w. omega (arith, g .top (pp .high), rows-up j w (pj .high), o .above));
           })
 
-      rest-low : good H u a p q ≡ true → Beside H t p u a b q
+      rest-low : mayBeInside H u a p q ≡ true → Beside H t p u a b q
       rest-low e = record {
         low = h .low;
         high = h .high;
         upper = h .upper;
         own = h .own;
         inside = λ j l v r. same j (H .atRank u)
-            (λ z. record { apart = λ y i n s o. let o′ : Overlap H y (H .atRank u) = rw z at o in omega (arith, dec-good H u a p q .is e .top (pp .high), rows-up y (omega arith) (omega (arith, h .upper)), o′ .below) })
+            (λ z. record {
+              apart = λ y i n s o.
+                  let o′ : Overlap H y (H .atRank u) = rw z at o in
+                  omega (
+                    arith,
+                    dec-may-be-inside H u a p q .is e .top (pp .high),
+                    rows-up y (omega arith) (omega (arith, h .upper)),
+                    o′ .below,
+                  );
+            })
             (λ ne. h .inside j l v (later j l v r ne));
         over = h .over;
       }
 
       in-low : join (inValue H u a p q) (value H u p b 0) ≤ inValue H u a b q
       unfolding inValue join
-      in-low = decide (good H u a p q)
-          (λ e. rw (e, good-low e, join-plus-low (H .weight (H .atRank u)) (value H u a p q) (value H u p b 0)) (plus-rises (H .weight (H .atRank u)) _ _ (ih a b q (rest-low e))))
+      in-low = decide (mayBeInside H u a p q)
+          (λ e. rw (e, inside-low e, join-plus-low (H .weight (H .atRank u)) (value H u a p q) (value H u p b 0))
+          (plus-rises (H .weight (H .atRank u)) _ _ (ih a b q (rest-low e))))
           (λ e. rw e (omega arith))
 
       -- The slab is cut at it: p is in the upper part.
@@ -134,15 +148,21 @@ module _ {H : Heights} (L : Sorted H) {t p : ℕ} (pp : Point H p) (rp : H .rank
           from r (older x e) i = rw e (h .over (x .low))
           from r (nobody e) i = absurd (omega arith)
 
-      clear-low : clear H (H .atRank u) p ≡ true → clear H (H .atRank u) b ≡ true
-      clear-low e = dec-clear H (H .atRank u) b .of (λ l z.
-          dec-clear H (H .atRank u) p .is e (pp .high) (omega (arith, L .rows (H .atRank u) p px pp m, rows-up b (omega (arith, h .high)) l)))
+      differ-low : rowsDiffer H (H .atRank u) p ≡ true → rowsDiffer H (H .atRank u) b ≡ true
+      differ-low e = dec-rows-differ H (H .atRank u) b .of (λ l z.
+          dec-rows-differ H (H .atRank u) p .is e (pp .high)
+          (omega (arith, L .rows (H .atRank u) p px pp m, rows-up b (omega (arith, h .high)) l)))
 
       out-low : join (outValue H u a p q) (value H u p b 0) ≤ outValue H u a b q
       unfolding outValue join
-      out-low = decide (clear H (H .atRank u) p)
-          (λ e. rw (e, clear-low e, join-assoc (value H u a (H .atRank u) q) (value H u (H .atRank u) p (reach H a (H .atRank u) q)) (value H u p b 0))
-          (join-rises (value H u a (H .atRank u) q) _ (value H u a (H .atRank u) q) _ (omega arith) (ih (H .atRank u) b (reach H a (H .atRank u) q) part-low)))
+      out-low = decide (rowsDiffer H (H .atRank u) p)
+          (λ e. rw (
+            e,
+            differ-low e,
+            join-assoc (value H u a (H .atRank u) q) (value H u (H .atRank u) p (reach H a (H .atRank u) q)) (value H u p b 0),
+          )
+          (join-rises (value H u a (H .atRank u) q) _ (value H u a (H .atRank u) q) _ (omega arith)
+          (ih (H .atRank u) b (reach H a (H .atRank u) q) part-low)))
           (λ e. rw e (omega arith))
 
     -- x IS ABOVE p
@@ -151,10 +171,10 @@ module _ {H : Heights} (L : Sorted H) {t p : ℕ} (pp : Point H p) (rp : H .rank
       touch j s o = s .apart (H .atRank u) m (k .high) (omega (arith, rx)) o
 
       -- It may be inside above p: it overlaps nothing below, so it may be inside in the whole.
-      good-high : good H u p b 0 ≡ true → good H u a b q ≡ true
-      good-high e =
-          let g : Good H u p b 0 = dec-good H u p b 0 .is e in
-          dec-good H u a b q .of (record {
+      inside-high : mayBeInside H u p b 0 ≡ true → mayBeInside H u a b q ≡ true
+      inside-high e =
+          let g : MayBeInside H u p b 0 = dec-may-be-inside H u p b 0 .is e in
+          dec-may-be-inside H u a b q .of (record {
             allowed = g .allowed;
             top = g .top;
             label = λ l o. touch q (h .over l) o;
@@ -170,8 +190,9 @@ module _ {H : Heights} (L : Sorted H) {t p : ℕ} (pp : Point H p) (rp : H .rank
 
       in-high : join (value H u a p q) (inValue H u p b 0) ≤ inValue H u a b q
       unfolding inValue
-      in-high = decide (good H u p b 0)
-          (λ e. rw (e, good-high e, join-plus-high (H .weight (H .atRank u)) (value H u a p q) (value H u p b 0)) (plus-rises (H .weight (H .atRank u)) _ _ (ih a b q rest-high)))
+      in-high = decide (mayBeInside H u p b 0)
+          (λ e. rw (e, inside-high e, join-plus-high (H .weight (H .atRank u)) (value H u a p q) (value H u p b 0))
+          (plus-rises (H .weight (H .atRank u)) _ _ (ih a b q rest-high)))
           (λ e. rw (e, join-none (value H u a p q)) (omega arith))
 
       -- The slab is cut at it: p is in the lower part, and a label that reaches over x is that of a point above p.
@@ -184,7 +205,8 @@ module _ {H : Heights} (L : Sorted H) {t p : ℕ} (pp : Point H p) (rp : H .rank
           same i p (λ z. touch p (h .own) (rw z at (reaches-overlaps L (H .atRank u) i px x)))
           (λ ne.
           let pi : Point H i = record { low = omega arith; high = omega (arith, pp .high) } in
-          touch i (h .inside i n (omega arith) (right-of L u i (omega (arith, below-n)) pi (x .right))) (reaches-overlaps L (H .atRank u) i px x)))))
+          touch i (h .inside i n (omega arith) (right-of L u i (omega (arith, below-n)) pi (x .right)))
+          (reaches-overlaps L (H .atRank u) i px x)))))
           (λ n. rw (le-ltb p i l, le-ltb a i n) refl))
 
       same-reach : reach H a (H .atRank u) q ≡ reach H p (H .atRank u) 0
@@ -208,9 +230,14 @@ module _ {H : Heights} (L : Sorted H) {t p : ℕ} (pp : Point H p) (rp : H .rank
 
       out-high : join (value H u a p q) (outValue H u p b 0) ≤ outValue H u a b q
       unfolding outValue
-      out-high = decide (clear H (H .atRank u) b)
-          (λ e. rw (e, same-reach, ← join-assoc (value H u a p q) (value H u p (H .atRank u) 0) (value H u (H .atRank u) b (reach H p (H .atRank u) 0)))
-          (join-rises _ (value H u (H .atRank u) b (reach H p (H .atRank u) 0)) _ (value H u (H .atRank u) b (reach H p (H .atRank u) 0)) (ih a (H .atRank u) q part-high) (omega arith)))
+      out-high = decide (rowsDiffer H (H .atRank u) b)
+          (λ e. rw (
+            e,
+            same-reach,
+            ← join-assoc (value H u a p q) (value H u p (H .atRank u) 0) (value H u (H .atRank u) b (reach H p (H .atRank u) 0)),
+          )
+          (join-rises _ (value H u (H .atRank u) b (reach H p (H .atRank u) 0)) _
+          (value H u (H .atRank u) b (reach H p (H .atRank u) 0)) (ih a (H .atRank u) q part-high) (omega arith)))
           (λ e. rw (e, join-none (value H u a p q)) (omega arith))
 
   -- BY INDUCTION ON THE RANK: the point of rank u is in the part below p, in the part above it, or in neither.
@@ -224,16 +251,33 @@ module _ {H : Heights} (L : Sorted H) {t p : ℕ} (pp : Point H p) (rp : H .rank
       let k : Between a x b = dec-between a x b .is e in
       less x p
       (λ m.
-      rw (value-step H u a b q e, value-step H u a p q (dec-between a x p .of (record { low = k .low; high = m })), value-skip H u p b 0 (dec-false (dec-between p x b) (λ n. omega (arith, n .low))))
+      rw (
+        value-step H u a b q e,
+        value-step H u a p q (dec-between a x p .of (record { low = k .low; high = m })),
+        value-skip H u p b 0 (dec-false (dec-between p x b) (λ n. omega (arith, n .low))),
+      )
       (omega (arith, join-max-low (outValue H u a p q) (inValue H u a p q) (value H u p b 0), out-low u l ih h k m, in-low u l ih h k m)))
       (λ m.
       let ne : x ≡ p → ⊥ = λ z. omega (arith, ap (H .rank) z, L .rank-atRank u (omega (arith, below-n))) in
       let m′ : p < x = omega arith in
-      rw (value-step H u a b q e, value-step H u p b 0 (dec-between p x b .of (record { low = m′; high = k .high })), value-skip H u a p q (dec-false (dec-between a x p) (λ n. omega (arith, n .high))))
-      (omega (arith, join-max-high (value H u a p q) (outValue H u p b 0) (inValue H u p b 0), out-high u l ih h k m′, in-high u l ih h k m′))))
+      rw (
+        value-step H u a b q e,
+        value-step H u p b 0 (dec-between p x b .of (record { low = m′; high = k .high })),
+        value-skip H u a p q (dec-false (dec-between a x p) (λ n. omega (arith, n .high))),
+      )
+      (omega (
+        arith,
+        join-max-high (value H u a p q) (outValue H u p b 0) (inValue H u p b 0),
+        out-high u l ih h k m′,
+        in-high u l ih h k m′,
+      ))))
       (λ e.
       let none : Between a x b → ⊥ = λ n. not-both (dec-between a x b .of n) e in
-      rw (value-skip H u a b q e, value-skip H u a p q (dec-false (dec-between a x p) (λ n. none (record { low = n .low; high = omega (arith, n .high, h .high) }))), value-skip H u p b 0 (dec-false (dec-between p x b) (λ n. none (record { low = omega (arith, n .low, h .low); high = n .high }))))
+      rw (
+        value-skip H u a b q e,
+        value-skip H u a p q (dec-false (dec-between a x p) (λ n. none (record { low = n .low; high = omega (arith, n .high, h .high) }))),
+        value-skip H u p b 0 (dec-false (dec-between p x b) (λ n. none (record { low = omega (arith, n .low, h .low); high = n .high }))),
+      )
       (ih a b q (record {
         low = h .low;
         high = h .high;
@@ -254,13 +298,14 @@ module _ {H : Heights} (L : Sorted H) {t a b q : ℕ} (s : Safe H t a b q) where
   p-rank : H .rank (H .atRank t) ≡ t
   p-rank = L .rank-atRank t (s .ranked)
 
-  p-good : Good H t a b q
-  p-good = dec-good H t a b q .is (s .good)
+  p-inside : MayBeInside H t a b q
+  p-inside = dec-may-be-inside H t a b q .is (s .may-be-inside)
 
   -- A label below p and right of p that doesn't reach over p overlaps none above p and left of p.
   aside : (j : ℕ) → Point H j → j < H .atRank t → t < H .rank j → (Reaches H (H .atRank t) j → ⊥) → Aside H t (H .atRank t) b j
   aside j pj l r f = record {
-    apart = λ y m n i o. f (overlap-reaches L j (H .atRank t) y pj p-point (record { low = omega arith; high = omega (arith, s .upper) }) l m (omega (arith, p-rank)) (omega (arith, p-rank)) o);
+    apart = λ y m n i o. f (overlap-reaches L j (H .atRank t) y pj p-point
+        (record { low = omega arith; high = omega (arith, s .upper) }) l m (omega (arith, p-rank)) (omega (arith, p-rank)) o);
   }
 
   right-of-p : 1 ≤ q → t < H .rank q
@@ -268,7 +313,8 @@ module _ {H : Heights} (L : Sorted H) {t a b q : ℕ} (s : Safe H t a b q) where
       let x = s .over l in
       let pa : Point H a = record { low = omega (arith, x .high); high = omega (arith, s .within .low, p-point .high) } in
       let pq : Point H q = record { low = l; high = omega (arith, x .high, pa .high) } in
-      right-of L t q (s .ranked) pq (omega (arith, x .right, L .columns (H .atRank t) a p-point pa (omega (arith, p-rank, s .lower-rank (pa .low)))))
+      right-of L t q (s .ranked) pq
+      (omega (arith, x .right, L .columns (H .atRank t) a p-point pa (omega (arith, p-rank, s .lower-rank (pa .low)))))
 
   beside : Beside H t (H .atRank t) t a b q
   beside = record {
@@ -278,15 +324,23 @@ module _ {H : Heights} (L : Sorted H) {t a b q : ℕ} (s : Safe H t a b q) where
     own = record {
       apart = λ y m n r o.
           let py : Point H y = record { low = omega arith; high = omega (arith, s .upper) } in
-          s .unreached .none y m n (record { low = p-point .low; high = m; over = o .below; right = L .ties y (H .atRank t) py p-point (omega (arith, p-rank)) m; near = o .right });
+          s .unreached .none y m n (record {
+            low = p-point .low;
+            high = m;
+            over = o .below;
+            right = L .ties y (H .atRank t) py p-point (omega (arith, p-rank)) m;
+            near = o .right;
+          });
     };
     inside = λ j l m r.
         let pj : Point H j = record { low = omega arith; high = omega (arith, p-point .high) } in
         let ne : H .rank j ≡ t → ⊥ = λ z. omega (arith, rank-is L t j pj z) in
-        aside j pj m (omega arith) (λ x. p-good .others j pj l (omega (arith, s .within .high)) (omega arith) (reaches-overlaps L (H .atRank t) j p-point x));
+        aside j pj m (omega arith)
+        (λ x. p-inside .others j pj l (omega (arith, s .within .high)) (omega arith) (reaches-overlaps L (H .atRank t) j p-point x));
     over = λ l.
         let x = s .over l in
-        aside q (record { low = l; high = omega (arith, x .high, s .within .low, p-point .high) }) (omega (arith, x .high, s .within .low)) (right-of-p l) (λ y. p-good .label l (reaches-overlaps L (H .atRank t) q p-point y));
+        aside q (record { low = l; high = omega (arith, x .high, s .within .low, p-point .high) })
+        (omega (arith, x .high, s .within .low)) (right-of-p l) (λ y. p-inside .label l (reaches-overlaps L (H .atRank t) q p-point y));
   }
 
   -- No label reaches over it: it would overlap.
@@ -296,18 +350,21 @@ module _ {H : Heights} (L : Sorted H) {t a b q : ℕ} (s : Safe H t a b q) where
       from : (r : ℕ) → Reached H a (H .atRank t) q r → r ≡ 0
       from r (newer x l) =
           let pr : Point H r = record { low = x .low; high = omega (arith, x .high, p-point .high) } in
-          absurd (p-good .others r pr l (omega (arith, x .high, s .within .high)) (right-of L t r (s .ranked) pr (x .right)) (reaches-overlaps L (H .atRank t) r p-point x))
-      from r (older x e) = absurd (p-good .label (x .low) (reaches-overlaps L (H .atRank t) q p-point x))
+          absurd (p-inside .others r pr l (omega (arith, x .high, s .within .high))
+          (right-of L t r (s .ranked) pr (x .right)) (reaches-overlaps L (H .atRank t) r p-point x))
+      from r (older x e) = absurd (p-inside .label (x .low) (reaches-overlaps L (H .atRank t) q p-point x))
       from r (nobody e) = e
 
   -- OUTSIDE IT GIVES NO MORE than the others do with it inside,
   pub safe-outside : outValue H t a b q ≤ value H t a b q
   unfolding outValue
-  safe-outside = decide (clear H (H .atRank t) b)
+  safe-outside = decide (rowsDiffer H (H .atRank t) b)
       (λ e. rw (e, no-reach) (whole L p-point p-rank t (omega arith) a b q beside))
       (λ e. rw e (omega arith))
 
   -- SO THE VALUE IS WHAT IT GIVES INSIDE.
   pub safe-inside : value H (suc t) a b q ≡ inValue H t a b q
   unfolding inValue
-  safe-inside = rw (value-step H t a b q (dec-between a (H .atRank t) b .of (s .within)), s .good) (omega (arith, safe-outside, plus-more (H .weight (H .atRank t)) (value H t a b q)))
+  safe-inside =
+      rw (value-step H t a b q (dec-between a (H .atRank t) b .of (s .within)), s .may-be-inside)
+      (omega (arith, safe-outside, plus-more (H .weight (H .atRank t)) (value H t a b q)))

@@ -6,7 +6,7 @@ use Prim.Native.Nat.{ℕ, zero, suc, _+_, _<_}
 use lib.Dec.{eqb}
 use borrow.Author.Tests.{eq-eqb, ne-eqb}
 use native.Mathlib.Omega.{arith}
-use Rattle.labeling.specs.Tests.{same}
+use Rattle.labeling.specs.Decide.{same}
 
 -- f 0 + ... + f (m - 1).
 unfoldable pub sum : (ℕ → ℕ) → ℕ → ℕ
@@ -74,4 +74,5 @@ sum-listed g k m n s =
     column : (p : ℕ) → p < n → sum (λ i. at i p) m ≡ g p
     column p l =
         let w = s .each p l in
-        sum-one (λ i. at i p) m (w .0) (w .1) (λ i u ne. off i p (λ e. ne (s .once i (w .0) u (w .1) (sym e ∙ sym (w .2))))) ∙ here (w .0) p (sym (w .2))
+        sum-one (λ i. at i p) m (w .0) (w .1) (λ i u ne. off i p (λ e. ne (s .once i (w .0) u (w .1) (sym e ∙ sym (w .2)))))
+        ∙ here (w .0) p (sym (w .2))

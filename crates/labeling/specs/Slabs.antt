@@ -1,12 +1,12 @@
--- Facts about two or three points; and a state of the recurrence that a choice matches, with its successors.
+-- Facts about two or three points; and a slab of the recurrence that a choice matches, with its successors.
 -- Assumes nothing.
 use mathlib.Core.Path.{_≡_, sym, _∙_, ap}
 use mathlib.Core.Bool.{Bool, true, false}
 use Prim.Native.Nat.{ℕ, suc, _+_, _≤_, _<_}
 use native.Mathlib.Omega.{arith}
-use Rattle.labeling.specs.Tests.{same}
+use Rattle.labeling.specs.Decide.{same, less}
 use Rattle.labeling.specs.Recurrence.{Heights, Point, Sorted, Overlap, Hits, reach}
-use Rattle.labeling.specs.RecurrenceTests.{less, Between, Reaches, Reached, newer, older, nobody, reach-is}
+use Rattle.labeling.specs.RecurrenceTests.{Between, Reaches, Reached, newer, older, nobody, reach-is}
 
 -- An overlap is mutual.
 pub overlap-sym : {H : Heights} {i j : ℕ} → Overlap H i j → Overlap H j i
@@ -45,7 +45,8 @@ module _ {H : Heights} (L : Sorted H) where
       (λ u. u)
 
   -- A label below p and right of p that overlaps one above p and left of p reaches over p.
-  pub overlap-reaches : (i p k : ℕ) → Point H i → Point H p → Point H k → i < p → p < k → H .rank p < H .rank i → H .rank k < H .rank p → Overlap H k i → Reaches H p i
+  pub overlap-reaches : (i p k : ℕ) → Point H i → Point H p → Point H k → i < p → p < k
+      → H .rank p < H .rank i → H .rank k < H .rank p → Overlap H k i → Reaches H p i
   overlap-reaches i p k pi pp pk l m r s o = record {
     low = pi .low;
     high = l;
@@ -58,7 +59,12 @@ module _ {H : Heights} (L : Sorted H) where
   pub reaches-overlaps : (p i : ℕ) → Point H p → Reaches H p i → Overlap H p i
   reaches-overlaps p i pp k =
       let pi : Point H i = record { low = k .low; high = omega (arith, k .high, pp .high) } in
-      record { left = omega (arith, k .right); right = k .near; below = k .over; above = omega (arith, L .rows i p pi pp (k .high), L .h-pos) }
+      record {
+        left = omega (arith, k .right);
+        right = k .near;
+        below = k .over;
+        above = omega (arith, L .rows i p pi pp (k .high), L .h-pos);
+      }
 
   -- and is right of p.
   pub reaches-right : (p i : ℕ) → Point H p → Reaches H p i → H .rank p < H .rank i
@@ -68,7 +74,8 @@ module _ {H : Heights} (L : Sorted H) where
 
   -- A label below p and right of p that overlaps p's reaches over p.
   pub overlap-right-reaches : (p i : ℕ) → Point H p → Point H i → i < p → H .rank p < H .rank i → Overlap H p i → Reaches H p i
-  overlap-right-reaches p i pp pi l r o = record { low = pi .low; high = l; over = o .below; right = L .ties p i pp pi r l; near = o .right }
+  overlap-right-reaches p i pp pi l r o =
+      record { low = pi .low; high = l; over = o .below; right = L .ties p i pp pi r l; near = o .right }
 
   -- Two labels that reach over p overlap.
   pub two-overlap : (p i k : ℕ) → Point H p → Reaches H p i → Reaches H p k → Overlap H i k
@@ -78,7 +85,8 @@ module _ {H : Heights} (L : Sorted H) where
       record { left = omega arith; right = omega arith; below = omega arith; above = omega arith }
 
   -- A label below a that reaches over p, which is above a and left of a, reaches over a, if it doesn't reach a's leader.
-  pub reaches-lower : (i a p : ℕ) → Point H a → Point H p → i < a → a < p → H .rank p < H .rank a → Reaches H p i → (Hits H i a → ⊥) → Reaches H a i
+  pub reaches-lower : (i a p : ℕ) → Point H a → Point H p → i < a → a < p → H .rank p < H .rank a → Reaches H p i → (Hits H i a → ⊥)
+      → Reaches H a i
   reaches-lower i a p pa pp l m r k f =
       let pi : Point H i = record { low = k .low; high = omega (arith, pa .high) } in
       let ria = L .rows i a pi pa l in
@@ -92,7 +100,7 @@ module _ {H : Heights} (L : Sorted H) where
         near = omega arith;
       }
 
--- A STATE THAT A CHOICE MATCHES
+-- A SLAB THAT A CHOICE MATCHES
 
 -- a and b are outside or boundaries; t is at most their ranks; the points strictly between of rank t or more are inside; and q is 0,
 -- or an inside point whose label reaches over a.
@@ -113,7 +121,7 @@ pub inner : {H : Heights} {S : ℕ → Bool} {t a b q : ℕ} → Matches H S t a
 inner s i l u = record { low = omega arith; high = omega (arith, s .b-le) }
 
 module _ {H : Heights} (L : Sorted H) {S : ℕ → Bool} {t a b q : ℕ} (s : Matches H S (suc t) a b q) where
-  -- The point of rank t is inside, or isn't between: the choice matches the state with one rank less.
+  -- The point of rank t is inside, or isn't between: the choice matches the slab with one rank less.
   pub match-same : (Between a (H .atRank t) b → S (H .atRank t) ≡ true) → Matches H S t a b q
   match-same f = record {
     t-le = omega (arith, s .t-le);
@@ -132,7 +140,8 @@ module _ {H : Heights} (L : Sorted H) {S : ℕ → Bool} {t a b q : ℕ} (s : Ma
 
   -- A label that reaches over the point of rank t from between a and b belongs to an inside point.
   pub newer-in : Between a (H .atRank t) b → (r : ℕ) → Reaches H (H .atRank t) r → a < r → S r ≡ true
-  newer-in k r m l = s .right r l (omega (arith, m .high, k .high)) (right-of L t r (s .t-le) (inner s r l (omega (arith, m .high, k .high))) (m .right))
+  newer-in k r m l =
+      s .right r l (omega (arith, m .high, k .high)) (right-of L t r (s .t-le) (inner s r l (omega (arith, m .high, k .high))) (m .right))
 
   -- The point that `reach` gives is inside.
   pub reach-in : Between a (H .atRank t) b → (r : ℕ) → Reached H a (H .atRank t) q r → 1 ≤ r → S r ≡ true
