@@ -1,6 +1,6 @@
 -- Facts about the tests of a sheet, for the proofs of this crate. Assumes nothing.
 use mathlib.Core.Path.{_≡_, refl, _∙_}
-use mathlib.Core.Bool.{true, false, not}
+use mathlib.Core.Bool.{Bool, true, false, not}
 use mathlib.Core.List.{List}
 use Prim.Native.Nat.{ℕ, zero, suc, _+_, _<_}
 use lib.Dec.{eqb, ltb}
@@ -9,7 +9,8 @@ use native.Mathlib.Omega.{arith}
 use native.Mathlib.Numerals.{add-one}
 use Rattle.labeling.specs.Points.{Points, nextMargin}
 use Rattle.labeling.specs.Conflicts.{every}
-use Rattle.labeling.specs.Tests.{not-both, decide, same, every-is}
+use Rattle.labeling.specs.Decide.{not-both, decide, same}
+use Rattle.labeling.specs.Tests.{every-is}
 use Rattle.format.specs.Answers.{outcomeOf}
 use Rattle.format.specs.Sheet.{unlikeEarlier, pointNo, pointsNo}
 
@@ -42,19 +43,23 @@ points-first s m (suc k) e ne l =
 
 -- THE ANSWER of a call whose first no is k
 
-pub none-outcome : (k : ℕ) → k ≡ 0 → record { refused = false; number = 0 } ≡ outcomeOf k
+pub none-outcome : (k : ℕ) → k ≡ 0 → record { refused = false; no = 0 } ≡ outcomeOf k
 none-outcome k e = rw e
 
-pub no-outcome : (r k : ℕ) → r ≡ k → (r ≡ 0 → ⊥) → record { refused = true; number = r } ≡ outcomeOf k
+pub no-outcome : (r k : ℕ) → r ≡ k → (r ≡ 0 → ⊥) → record { refused = true; no = r } ≡ outcomeOf k
 no-outcome r k e ne = rw (← e, ne-eqb r 0 ne)
 
 -- THE MARGIN RULE
 
+-- "if its row is less than h below the previous row": position i, where j is the previous one.
+abbrev pub closeBelow : Points → ℕ → ℕ → Bool
+closeBelow P j i = ltb (P .row j) (P .row i + P .h)
+
 module _ (P : Points) (j k i : ℕ) where
-  pub margin-near : ltb (P .row j) (P .row i + P .h) ≡ true → k + 1 ≡ nextMargin P j k i
+  pub margin-near : closeBelow P j i ≡ true → k + 1 ≡ nextMargin P j k i
   unfolding nextMargin
   margin-near e = rw e
 
-  pub margin-far : ltb (P .row j) (P .row i + P .h) ≡ false → 0 ≡ nextMargin P j k i
+  pub margin-far : closeBelow P j i ≡ false → 0 ≡ nextMargin P j k i
   unfolding nextMargin
   margin-far e = rw e

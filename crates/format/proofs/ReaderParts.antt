@@ -49,7 +49,11 @@ parted 𝓤 H A W κ d fits =
     let L = T′.the-laws (namedLft 1 0 tt (κ, tt)) in
     qed W (‵ (Own κ d) ∷ []) ∵
     use1 W (‵ (Own κ d) ⊛ ‵ (Own κ d)) (LL.copy D (T′.the-copy (namedLft 1 0 tt (κ, tt))) 𝓤 H A W .twice d (T′.lowered d ∷ [])) $ split ! $
-    use1 W (given (T′.lowered d ∷ [] ≡ T′.lowered d ∷ []) (‵ (all-own (D .parts) L (d .sheet, (d .next, tt))))) (own-open 𝓤 H A W D L (d .sheet, (d .next, tt)) (T′.lowered d)) $
-    learn ! (λ _. use1 W (‵ (ownAt (D .parts) L 0 (d .sheet)) ⊛ ‵ (rest (D .parts) L 0 (d .sheet, (d .next, tt)))) (own-out 𝓤 H A W (D .parts) L 0 (d .sheet, (d .next, tt))) $ split ! $
+    use1 W (given (T′.lowered d ∷ [] ≡ T′.lowered d ∷ []) (‵ (all-own (D .parts) L (d .sheet, (d .next, tt)))))
+    (own-open 𝓤 H A W D L (d .sheet, (d .next, tt)) (T′.lowered d)) $
+    learn ! (λ _. use1 W (‵ (ownAt (D .parts) L 0 (d .sheet)) ⊛ ‵ (rest (D .parts) L 0 (d .sheet, (d .next, tt))))
+    (own-out 𝓤 H A W (D .parts) L 0 (d .sheet, (d .next, tt))) $
+    split ! $
     -- [what the sheet owns; what the place owns; what the reader owns]
-    move ! (1 ∷ []) $ drop ! $ nothing ! $ owned ! u8 (Is u8) (uint-makes 𝓤 H A W w8) (d .next) _ (refl, fits) $ fjoin ! $ move ! (1 ∷ 0 ∷ []) $ fjoin ! $ frame ! $ done !)
+    move ! (1 ∷ []) $ drop ! $ nothing ! $ owned ! u8 (Is u8) (uint-makes 𝓤 H A W w8) (d .next) _ (refl, fits) $
+    fjoin ! $ move ! (1 ∷ 0 ∷ []) $ fjoin ! $ frame ! $ done !)

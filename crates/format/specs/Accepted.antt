@@ -9,8 +9,10 @@ use lib.ListN.{length}
 use borrow.Author.Tests.{eqb-true, eqb-false, eq-eqb}
 use native.Mathlib.Omega.{arith}
 use Rattle.labeling.specs.Points.{DistinctRows}
-use Rattle.labeling.specs.Tests.{decide, same, Decides, dec-lt, dec-le, dec-eq, dec-and, dec-not, every-of, every-is}
-use Rattle.format.specs.Sheet.{frameCount, mapWidth, mapHeight, labelWidth, labelHeight, pointCount, callNumber, column, row, pointsOf, ask, upTo, unlikeEarlier, pointNo, pointsNo, questionsNo, sheetNo, plateSheetNo}
+use Rattle.labeling.specs.Decide.{decide, same, Decides, dec-lt, dec-le, dec-eq, dec-and, dec-not}
+use Rattle.labeling.specs.Tests.{every-of, every-is}
+use Rattle.format.specs.Sheet.{frameCount, mapWidth, mapHeight, labelWidth, labelHeight, pointCount, callNumber, column}
+use Rattle.format.specs.Sheet.{row, pointsOf, ask, upTo, unlikeEarlier, pointNo, pointsNo, questionsNo, sheetNo, plateSheetNo}
 
 -- A number is 1 to most.
 abbrev pub UpTo : ℕ → ℕ → Type 0
@@ -76,7 +78,8 @@ unlike-all f m d i l j k e = let q : j ≡ i = d j i (omega arith) l e in omega 
 -- The rules of one point.
 PointProper : List ℕ → ℕ → Type 0
 PointProper s i =
-    UpTo 9999 (callNumber s i) × (((column s i < mapWidth s) × (row s i < mapHeight s)) × (Unlike (callNumber s) i × (Unlike (row s) i × Unit {0})))
+    UpTo 9999 (callNumber s i)
+    × (((column s i < mapWidth s) × (row s i < mapHeight s)) × (Unlike (callNumber s) i × (Unlike (row s) i × Unit {0})))
 
 none-point : (s : List ℕ) (i : ℕ) → NoneOf (pointNo s i) (PointProper s i)
 unfolding pointNo PointProper
@@ -104,7 +107,11 @@ none-points s (suc m) = record {
 -- What all the questions ask, where `Fits` is what 16 asks.
 Asked : List ℕ → Type 0 → Type 0
 Asked s Fits =
-    (10 ≤ length s) × ((frameCount s ≡ 1) × ((UpTo 4096 (mapWidth s) × UpTo 4096 (mapHeight s)) × ((UpTo 256 (labelWidth s) × UpTo 256 (labelHeight s)) × ((pointCount s ≤ 32) × (Fits × ((i : ℕ) → i < pointCount s → PointProper s i))))))
+    (10 ≤ length s)
+    × ((frameCount s ≡ 1)
+    × ((UpTo 4096 (mapWidth s) × UpTo 4096 (mapHeight s))
+    × ((UpTo 256 (labelWidth s) × UpTo 256 (labelHeight s))
+    × ((pointCount s ≤ 32) × (Fits × ((i : ℕ) → i < pointCount s → PointProper s i))))))
 
 none-questions : (s : List ℕ) {fits : Bool} {Fits : Type 0} → Decides fits Fits → NoneOf (questionsNo s fits) (Asked s Fits)
 unfolding questionsNo Asked
@@ -151,8 +158,13 @@ proper-asked s Fits p long f = (
           p .few,
           (
             f,
-            λ i l.
-                (p .call-number i l, (p .on-map i l, (unlike-all (callNumber s) (pointCount s) (p .calls) i l, (unlike-all (row s) (pointCount s) (p .rows .apart) i l, tt)))),
+            λ i l. (
+              p .call-number i l,
+              (
+                p .on-map i l,
+                (unlike-all (callNumber s) (pointCount s) (p .calls) i l, (unlike-all (row s) (pointCount s) (p .rows .apart) i l, tt)),
+              ),
+            ),
           ),
         ),
       ),

@@ -1,10 +1,11 @@
--- Facts about questions: what a number is where an answer is no, and where it is yes. Assumes nothing.
-use mathlib.Core.Path.{_≡_, sym, _∙_}
+-- Facts about questions: what a number is where an answer is no, and where it is yes; and a cascade of them, one question at a time.
+-- Assumes nothing.
+use mathlib.Core.Path.{_≡_, refl, sym, _∙_}
 use mathlib.Core.Bool.{Bool, true, false, not, _&&_}
 use Prim.Native.Nat.{ℕ}
 use lib.Dec.{eqb}
 use borrow.Author.Tests.{eq-eqb, ne-eqb, eqb-true, eqb-false, not-true, not-false}
-use Rattle.labeling.specs.Tests.{decide}
+use Rattle.labeling.specs.Decide.{decide}
 use Rattle.format.specs.Sheet.{ask, thenNo}
 use Rattle.format.specs.Accepted.{NoneOf}
 
@@ -36,7 +37,53 @@ then-later first later x e q = rw (eq-eqb first 0 e) q
 pub then-first : (first later x : ℕ) → (first ≡ 0 → ⊥) → x ≡ first → x ≡ thenNo first later
 then-first first later x ne q = rw (ne-eqb first 0 ne) q
 
--- neither has a no
+-- A CASCADE, QUESTION BY QUESTION
+
+-- A rung: the first no of the whole cascade, and the number that its questions from here on give. The two are the same, since the
+-- questions before are answered yes. At the end, `same` says what is returned.
+pub record Rung : Type 0 where
+  pub no : ℕ
+  pub rest : ℕ
+  pub same : rest ≡ no
+
+-- before the first question
+abbrev pub first-of : ℕ → Rung
+first-of m = record { no = m; rest = m; same = refl }
+
+-- the next question, whose test is b, is answered yes
+abbrev pub past : (g : Rung) (b : Bool) (k after : ℕ) → g .rest ≡ ask b k after → b ≡ true → Rung
+past g b k after q e = record { no = g .no; rest = after; same = ask-yes b k after after e refl ∙ sym q ∙ g .same }
+
+-- or no, and its number is returned
+pub stops : (g : Rung) (b : Bool) (k after : ℕ) → g .rest ≡ ask b k after → b ≡ false → k ≡ g .no
+stops g b k after q e = ask-no b k after e ∙ sym q ∙ g .same
+
+-- A result r of the code, and the test that it answers.
+pub record Answer (r : Bool) : Type 0 where
+  pub test : Bool
+  pub right : r ≡ test
+
+abbrev pub answers : {r b : Bool} → r ≡ b → Answer r
+answers {r} {b} e = record { test = b; right = e }
+
+-- the next question is answered by a result r, and the code branches on `!r`
+abbrev pub past-answer : (g : Rung) {r : Bool} (a : Answer r) (k after : ℕ) → g .rest ≡ ask (a .test) k after → not r ≡ false → Rung
+past-answer g {r} a k after q t = past g (a .test) k after q (on r (a .test) (a .right) t)
+
+pub stops-answer : (g : Rung) {r : Bool} (a : Answer r) (k after : ℕ) → g .rest ≡ ask (a .test) k after → not r ≡ true → k ≡ g .no
+stops-answer g {r} a k after q t = stops g (a .test) k after q (off r (a .test) (a .right) t)
+
+-- a list of questions comes next, and has no no
+abbrev pub past-list : (g : Rung) (first later : ℕ) → g .rest ≡ thenNo first later → first ≡ 0 → Rung
+past-list g first later q e = record { no = g .no; rest = later; same = then-later first later later e refl ∙ sym q ∙ g .same }
+
+-- or has one, which is returned
+pub stops-list : (g : Rung) (first later x : ℕ) → g .rest ≡ thenNo first later → (first ≡ 0 → ⊥) → x ≡ first → x ≡ g .no
+stops-list g first later x q ne e = then-first first later x ne e ∙ sym q ∙ g .same
+
+-- NONE IS ANSWERED NO
+
+-- neither of two lists of questions has a no
 pub none-then : {first later : ℕ} {A B : Type 0} → NoneOf first A → NoneOf later B → NoneOf (thenNo first later) (A × B)
 none-then {first} {later} a b = record {
   is = λ z. decide (eqb first 0)

@@ -5,7 +5,7 @@ use mathlib.Core.List.{List, [], _∷_}
 use Prim.Native.Nat.{ℕ}
 use lib.Dec.{eqb}
 use borrow.Author.Tests.{eqb-true, eq-eqb}
-use Rattle.labeling.specs.Tests.{not-both, and-left, and-right, and-both, Decides}
+use Rattle.labeling.specs.Decide.{not-both, and-left, and-right, and-both, Decides}
 
 abbrev pub sameBytes : List ℕ → List ℕ → Bool
 sameBytes [] [] = true

@@ -1,14 +1,24 @@
+-- WHAT A READER MUST BELIEVE: the bytes of sheets and plates and the questions, as document 01 has them.
+pub mod Sizes
 pub mod Sheet
-pub mod Reader
-pub mod Asking
 pub mod Plate
-pub mod Bytes
-pub mod Padded
-pub mod Written
+pub mod Ascending
+pub mod MakingQuestions
+-- Definitions that contracts and other crates' definitions cite: what an answer says, the walk over a sheet's points, when two lists of
+-- bytes are the same, bytes in lent or longer arrays, and two stretches that overlap.
 pub mod Answers
+pub mod Reader
+pub mod Bytes
+pub mod Written
+pub mod Padded
+pub mod Stretches
+-- THEOREMS: what an accepted sheet has; the first bytes that decide; how long a plate is, and that it is bytes; an ascending list is the
+-- list of one choice.
 pub mod Accepted
 pub mod Start
-pub mod MakingQuestions
 pub mod PlateLength
 pub mod PlateBytes
+pub mod InsideList
+-- Bookkeeping for proofs: cascades of questions, and choices that agree.
+pub mod Asking
 pub mod PlateAgree

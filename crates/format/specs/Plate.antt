@@ -3,8 +3,7 @@ use mathlib.Core.Bool.{cond}
 use mathlib.Core.List.{List, [], _∷_, _++_}
 use Prim.Native.Nat.{ℕ, zero, suc}
 use lib.ListN.{length}
-use Rattle.labeling.specs.Points.{Choice, Placed, outside, placed}
-use Rattle.labeling.specs.Margin.{among}
+use Rattle.labeling.specs.Points.{Choice, Placed, outside, placed, among}
 use Rattle.format.specs.Sheet.{pointCount, pointsOf}
 
 -- The choice with just the listed positions inside.

@@ -7,9 +7,10 @@ use Prim.Native.Nat.{ℕ, zero, suc, _+_, _≤_, _<_}
 use lib.Dec.{eqb}
 use lib.ListN.{length}
 use native.Mathlib.Omega.{arith}
-use Rattle.labeling.specs.Points.{Points, Choice, before, insert, outsideBelow, outside, nextMargin, placedFrom, placed, marginIn, marginColumn}
-use Rattle.labeling.specs.Tests.{decide}
-use Rattle.labeling.specs.Margin.{among, among-none, outside-lists, next-most}
+use Rattle.labeling.specs.Points.{Points, Choice, before, insert, outsideBelow, outside}
+use Rattle.labeling.specs.Points.{nextMargin, placedFrom, placed, marginIn, marginColumn, among}
+use Rattle.labeling.specs.Decide.{decide}
+use Rattle.labeling.specs.Margin.{among-none, outside-lists, next-most}
 use Rattle.labeling.specs.Order.{outside-length}
 use Rattle.format.specs.Sheet.{pointCount, pointsOf}
 use Rattle.format.specs.Plate.{insideBelow, insideSection, pairs, outsideSection, plateOf}
@@ -91,5 +92,9 @@ plate-bytes s S a b =
     let few : pointCount s ≤ 32 = a .proper .few in
     let all = outside-length (pointsOf s) S (pointCount s) in
     bytes-append (s ++ insideSection s S) (outsideSection s S)
-    (bytes-append s (insideSection s S) b (omega (arith, inside-length S (pointCount s), all), inside-bytes S (pointCount s) (omega arith)))
-    (omega (arith, all), placed-bytes (pointsOf s) (outsideBelow (pointsOf s) S (pointCount s)) (outside-bytes (pointsOf s) S (pointCount s) (omega arith)) (omega (arith, all)))
+    (bytes-append s (insideSection s S) b
+    (omega (arith, inside-length S (pointCount s), all), inside-bytes S (pointCount s) (omega arith))) (
+      omega (arith, all),
+      placed-bytes (pointsOf s) (outsideBelow (pointsOf s) S (pointCount s))
+          (outside-bytes (pointsOf s) S (pointCount s) (omega arith)) (omega (arith, all)),
+    )

@@ -6,7 +6,7 @@ use lib.ListN.{length, length-append}
 use native.Mathlib.Omega.{arith}
 use Rattle.labeling.specs.Points.{Points, Choice, Placed, outside, placedFrom, placed, nextMargin}
 use Rattle.labeling.specs.Best.{weightBelow, weight, count, bestCount, oneEach}
-use Rattle.labeling.specs.Tests.{decide}
+use Rattle.labeling.specs.Decide.{decide}
 use Rattle.labeling.specs.Order.{outside-length}
 use Rattle.format.specs.Sheet.{pointCount, pointsOf}
 use Rattle.format.specs.Plate.{insideBelow, insideSection, pairs, outsideSection, plateOf}
@@ -56,7 +56,8 @@ unfolding outside count weight
 inside-outside s S = outside-length (pointsOf s) S (pointCount s)
 
 -- THE LENGTH OF A PLATE
-pub plate-length : (s : List ℕ) (S : Choice) → Accepted s → length (plateOf s S) ≡ 12 + 6 * pointCount s + count (pointsOf s) S + 2 * length (outside (pointsOf s) S)
+pub plate-length : (s : List ℕ) (S : Choice) → Accepted s
+    → length (plateOf s S) ≡ 12 + 6 * pointCount s + count (pointsOf s) S + 2 * length (outside (pointsOf s) S)
 unfolding plateOf
 plate-length s S a =
     let l : length s ≡ 10 + 6 * pointCount s = a .long in
@@ -67,9 +68,11 @@ unfoldable pub bestLength : List ℕ → ℕ
 bestLength s = let i = bestCount (pointsOf s) in 12 + 6 * pointCount s + i + 2 * (pointCount s - i)
 
 -- the plate of a choice of the best count has the length of a best plate
-pub best-length : (s : List ℕ) (S : Choice) → Accepted s → count (pointsOf s) S ≡ bestCount (pointsOf s) → length (plateOf s S) ≡ bestLength s
+pub best-length : (s : List ℕ) (S : Choice) → Accepted s → count (pointsOf s) S ≡ bestCount (pointsOf s)
+    → length (plateOf s S) ≡ bestLength s
 unfolding bestLength
 best-length s S a e =
     let o : length (outside (pointsOf s) S) + count (pointsOf s) S ≡ pointCount s = inside-outside s S in
-    let l : length (plateOf s S) ≡ 12 + 6 * pointCount s + count (pointsOf s) S + 2 * length (outside (pointsOf s) S) = plate-length s S a in
+    let l : length (plateOf s S) ≡ 12 + 6 * pointCount s + count (pointsOf s) S + 2 * length (outside (pointsOf s) S) =
+    plate-length s S a in
     omega arith

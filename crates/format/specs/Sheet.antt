@@ -59,7 +59,7 @@ pointsOf s = record {
 
 -- QUESTIONS: the number of a question is given where its answer is no; otherwise the questions after it decide.
 abbrev pub ask : Bool → ℕ → ℕ → ℕ
-ask answer number after = cond answer after number
+ask answer k after = cond answer after k
 
 -- The first no of two lists of questions, asked one after the other: the first list's, unless that is 0.
 abbrev pub thenNo : ℕ → ℕ → ℕ
@@ -68,6 +68,14 @@ thenNo first later = cond (eqb first 0) later first
 -- "Map sides are 1 to 4,096, label sides 1 to 256, ... call numbers 1 to 9,999."
 abbrev pub upTo : ℕ → ℕ → Bool
 upTo most x = leb 1 x && leb x most
+
+-- "Are both map sides allowed?" "Both label sides?"
+abbrev pub bothUpTo : ℕ → ℕ → ℕ → Bool
+bothUpTo most x y = upTo most x && upTo most y
+
+-- "Are column and row on the map?"
+abbrev pub onMap : List ℕ → ℕ → ℕ → Bool
+onMap s c r = ltb c (mapWidth s) && ltb r (mapHeight s)
 
 -- "unlike every earlier one": what f gives to position i it gives to no position below i.
 unfoldable pub unlikeEarlier : (ℕ → ℕ) → ℕ → Bool
@@ -78,7 +86,7 @@ unlikeEarlier f i = every (λ j. not (eqb (f j) (f i))) i
 unfoldable pub pointNo : List ℕ → ℕ → ℕ
 pointNo s i =
     ask (upTo 9999 (callNumber s i)) 17
-    (ask (ltb (column s i) (mapWidth s) && ltb (row s i) (mapHeight s)) 18
+    (ask (onMap s (column s i) (row s i)) 18
     (ask (unlikeEarlier (callNumber s) i) 19
     (ask (unlikeEarlier (row s) i) 20
     0)))
@@ -94,8 +102,8 @@ unfoldable pub questionsNo : List ℕ → Bool → ℕ
 questionsNo s fits =
     ask (leb 10 (length s)) 11
     (ask (eqb (frameCount s) 1) 12
-    (ask (upTo 4096 (mapWidth s) && upTo 4096 (mapHeight s)) 13
-    (ask (upTo 256 (labelWidth s) && upTo 256 (labelHeight s)) 14
+    (ask (bothUpTo 4096 (mapWidth s) (mapHeight s)) 13
+    (ask (bothUpTo 256 (labelWidth s) (labelHeight s)) 14
     (ask (leb (pointCount s) 32) 15
     (ask fits 16
     (pointsNo s (pointCount s)))))))

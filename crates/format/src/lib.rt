@@ -1,10 +1,11 @@
 // The bytes of sheets and plates.
 ghost use mathlib.Core.Path.{_≡_};
 ghost use Prim.Native.Nat.{_+_, _*_, _<_};
-ghost use mathlib.Core.Bool.{_&&_};
 ghost use lib.Dec.{ltb};
 ghost use lib.ListN.{getD};
-ghost use Rattle.format.specs.Sheet.{twoBytes, sheetLength, mapWidth, mapHeight, labelWidth, labelHeight, pointCount, callNumber, column as columnOf, row as rowOf, upTo, unlikeEarlier, pointNo, pointsNo, questionsNo, sheetNo, pointsOf};
+ghost use Rattle.format.specs.Sheet.{twoBytes, sheetLength, mapWidth, mapHeight, labelWidth, labelHeight, pointCount};
+ghost use Rattle.format.specs.Sheet.{callNumber, column as columnOf, row as rowOf, pointsOf};
+ghost use Rattle.format.specs.Sheet.{upTo, bothUpTo, onMap, unlikeEarlier, pointNo, pointsNo, questionsNo, sheetNo};
 ghost use Rattle.labeling.specs.Points.{nextMargin};
 ghost use Rattle.format.specs.Answers.{sheetOutcome, outcomeOf};
 ghost use Rattle.format.specs.Reader.{pointAt};
@@ -18,6 +19,15 @@ pub mod reader;
 mod writing;
 
 pub use writing::copy_to;
+
+// The bytes of the largest sheet, 10 + 6 · 32.
+pub const SHEET_ROOM: usize = 202;
+
+// The bytes of the largest plate, 12 + 8 · 32: what a making asks for at most.
+pub const PLATE_ROOM: usize = 268;
+
+// The 16-bit numbers of workspace that a making and a load ask for.
+pub const WORKSPACE_CELLS: usize = 32768;
 
 // What check_sheet answers: the sheet is accepted, or refused with the number of its first no.
 pub enum SheetAnswer {
@@ -134,7 +144,7 @@ fn up_to(most: u16, x: u16) -> bool
 
 // Both sides are 1 to most.
 fn both_up_to(most: u16, x: u16, y: u16) -> bool
-    ensures { λ r. ⌜ r ≡ (upTo most x && upTo most y) ⌝ }
+    ensures { λ r. ⌜ r ≡ bothUpTo most x y ⌝ }
 {
     if up_to(most, x) {
         return up_to(most, y);
@@ -144,7 +154,7 @@ fn both_up_to(most: u16, x: u16, y: u16) -> bool
 
 // The column and row of a point are on the map.
 fn on_map(sheet: &[u8], point: SheetPoint) -> bool
-    ensures { λ r. ⌜ r ≡ (ltb (point .column) (mapWidth (now (sheet .entry))) && ltb (point .row) (mapHeight (now (sheet .entry)))) ⌝ }
+    ensures { λ r. ⌜ r ≡ onMap (now (sheet .entry)) (point .column) (point .row) ⌝ }
 {
     if point.column < map_width(sheet) {
         return point.row < map_height(sheet);

@@ -1,10 +1,8 @@
 -- `format::next_margin` meets its contract. Assumes nothing.
 use borrow.Author.Needs.{needs}
 use mathlib.Core.Path.{_≡_, sym, _∙_}
-use Prim.Native.Nat.{_+_}
-use lib.Dec.{ltb}
-use Rattle.format.specs.Sheet.{labelHeight, row, pointsOf}
-use Rattle.format.proofs.Laws.{margin-near, margin-far}
+use Rattle.format.specs.Sheet.{pointsOf}
+use Rattle.format.proofs.Laws.{closeBelow, margin-near, margin-far}
 use Rattle.format.proofs.next_margin.Statement.{statement}
 use Rattle.format.proofs.next_margin.Tie as tie
 
@@ -23,8 +21,10 @@ within-requires c κs = search needs
 add-result : tie.Need-add-result
 add-result c = search needs
 
--- whether the rows are less than a label's height apart
-reach : (c : tie.After-within) → c .within .result ≡ (let a = c .before .before .before .before .before .args in ltb (row (a .sheet .now) (a .previous)) (row (a .sheet .now) (a .position) + labelHeight (a .sheet .now)))
+-- the code's test is the rule's
+reach : (c : tie.After-within)
+    → c .within .result
+    ≡ (let a = c .before .before .before .before .before .args in closeBelow (pointsOf (a .sheet .now)) (a .previous) (a .position))
 reach c = cc
 
 returns : tie.Need-returns

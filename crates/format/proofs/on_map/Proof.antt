@@ -14,7 +14,9 @@ map-height-requires : tie.Need-map-height-requires
 map-height-requires c κs = search needs
 
 returns : tie.Need-returns
-returns c = and-yes _ _ _ (ap (ltb _) (sym (c .before .before .before .before .map-width .ensures)) ∙ lt-ltb _ _ (c .before .before .if1 .taken)) (ap (ltb _) (c .before .map-height .ensures))
+returns c =
+    and-yes _ _ _ (ap (ltb _) (sym (c .before .before .before .before .map-width .ensures)) ∙ lt-ltb _ _ (c .before .before .if1 .taken))
+    (ap (ltb _) (c .before .map-height .ensures))
 
 returns-2 : tie.Need-returns-2
 returns-2 c = and-no _ _ (ap (ltb _) (sym (c .before .before .map-width .ensures)) ∙ le-ltb _ _ (c .if1 .left))

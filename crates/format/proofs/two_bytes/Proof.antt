@@ -42,7 +42,8 @@ wide-requires-3 c κs = search needs
 
 returns-2 : tie.Need-returns-2
 unfolding twoBytes
-returns-2 c = let a = c .before .before .before .before .args in omega (arith, List·getD-eq-default (a .bytes .now) 0 (c .before .before .if1 .left))
+returns-2 c =
+    let a = c .before .before .before .before .args in omega (arith, List·getD-eq-default (a .bytes .now) 0 (c .before .before .if1 .left))
 
 pub two-bytes-spec : {M : Type 1} → statement M
 two-bytes-spec =

@@ -12,7 +12,8 @@ use Rattle.format.proofs.unlike_earlier.Tie as tie
 
 abbrev Inv-loop : tie.InvT-loop
 Inv-loop sheet place position own earlier₀ earlier =
-    (earlier ≤ position) × (own ≡ twoBytes sheet (place + 6 * position)) × ((j : ℕ) → j < earlier → twoBytes sheet (place + 6 * j) ≡ own → ⊥)
+    (earlier ≤ position) × (own ≡ twoBytes sheet (place + 6 * position))
+    × ((j : ℕ) → j < earlier → twoBytes sheet (place + 6 * j) ≡ own → ⊥)
 
 abbrev μ-loop : tie.MeasureT-loop
 μ-loop sheet place position own earlier₀ earlier = position - earlier
@@ -44,8 +45,10 @@ two-bytes-requires-2 c κs = search needs
 returns : tie.Need-returns Inv-loop μ-loop
 returns c =
     let a = c .before .before .before .before .before .before .args in
-    let same : twoBytes (a .sheet .now) (a .place + 6 * c .before .before .before .loop .earlier) ≡ twoBytes (a .sheet .now) (a .place + 6 * a .position) = cc in
-    sym (not-unlike (λ (j : ℕ). twoBytes (a .sheet .now) (a .place + 6 * j)) (a .position) (c .before .before .before .loop .earlier) (omega arith) same)
+    let same : twoBytes (a .sheet .now) (a .place + 6 * c .before .before .before .loop .earlier)
+    ≡ twoBytes (a .sheet .now) (a .place + 6 * a .position) = cc in
+    sym (not-unlike (λ (j : ℕ). twoBytes (a .sheet .now) (a .place + 6 * j)) (a .position)
+    (c .before .before .before .loop .earlier) (omega arith) same)
 
 add-earlier : tie.Need-add-earlier Inv-loop μ-loop
 add-earlier c = search needs
@@ -54,8 +57,11 @@ loop-less : tie.Need-loop-less Inv-loop μ-loop
 loop-less c = search needs
 
 loop-again : tie.Need-loop-again Inv-loop μ-loop
-loop-again c =
-    (search needs, search needs, below-more _ _ (c .before .before .before .loop .inv .2) (λ e. c .if1 .left (c .before .two-bytes2 .ensures ∙ e)))
+loop-again c = (
+  search needs,
+  search needs,
+  below-more _ _ (c .before .before .before .loop .inv .2) (λ e. c .if1 .left (c .before .two-bytes2 .ensures ∙ e)),
+)
 
 returns-2 : tie.Need-returns-2 Inv-loop μ-loop
 returns-2 c =

@@ -13,7 +13,8 @@ row-requires : tie.Need-row-requires
 row-requires c κs = search needs
 
 returns : tie.Need-returns
-returns c = λ i. record { «call_number» = c .before .before .call-number .ensures i; column = c .before .column .ensures i; row = c .row .ensures i }
+returns c = λ i.
+    record { «call_number» = c .before .before .call-number .ensures i; column = c .before .column .ensures i; row = c .row .ensures i }
 
 pub point-at-spec : {M : Type 1} → statement M
 point-at-spec = tie.close (tie.spec call-number-requires column-requires row-requires returns)

@@ -35,8 +35,11 @@ loop-less c = search needs
 loop-again : tie.Need-loop-again Inv-loop μ-loop
 loop-again c =
     let a = c .before .before .before .args in
-    let l = c .before .before .loop in
-    (search needs, simp length-set (search needs), copied-more (a .output .now) (a .at) (a .bytes .now) (l .output) (l .i) (omega arith) (omega arith) (l .inv .2))
+    let l = c .before .before .loop in (
+      search needs,
+      simp length-set (search needs),
+      copied-more (a .output .now) (a .at) (a .bytes .now) (l .output) (l .i) (omega arith) (omega arith) (l .inv .2),
+    )
 
 same-length : tie.Need-same-length Inv-loop μ-loop
 same-length c = search needs

@@ -13,7 +13,8 @@ sub-if2 : tie.Need-sub-if2
 sub-if2 c = search needs
 
 returns-2 : tie.Need-returns-2
-returns-2 c = let a = c .before .before .before .before .args in sym (written-no-room (a .output .now) (a .at) (a .bytes .now) (omega arith))
+returns-2 c =
+    let a = c .before .before .before .before .args in sym (written-no-room (a .output .now) (a .at) (a .bytes .now) (omega arith))
 
 copy-requires : tie.Need-copy-requires
 copy-requires c κs = search needs
