@@ -8,20 +8,21 @@ use native.Mathlib.Omega.{arith}
 use native.Mathlib.Numerals.{add-one}
 use Rattle.labeling.specs.Points.{Points, Choice}
 use Rattle.labeling.specs.Conflicts.{overlapB, hitsB}
-use Rattle.labeling.specs.Tests.{not-both, same}
+use Rattle.labeling.specs.Decide.{not-both, same}
 use Rattle.clash.specs.declared.ClashKind.the-variants.{Labels, LabelAndLeader}
 use Rattle.clash.specs.declared.Clash.{Clash}
 use Rattle.clash.specs.declared.Clash.the-variants.{None, Between}
+use Rattle.format.specs.Stretches.{stretchesOverlap}
 use Rattle.clash.specs.FirstClash.{isClash, orElse, clashIf, pairClash, firstOf, orderedClash}
 use Rattle.clash.specs.ClashPixels.{first-none, none-first}
 
 -- TWO LABELS, by their columns and then their rows
 
 abbrev pub columnsMeet : Points → ℕ → ℕ → Bool
-columnsMeet P i j = ltb (P .column i) (P .column j + P .w) && ltb (P .column j) (P .column i + P .w)
+columnsMeet P i j = stretchesOverlap (P .column i) (P .column j) (P .w)
 
 abbrev pub rowsMeet : Points → ℕ → ℕ → Bool
-rowsMeet P i j = ltb (P .row i) (P .row j + P .h) && ltb (P .row j) (P .row i + P .h)
+rowsMeet P i j = stretchesOverlap (P .row i) (P .row j) (P .h)
 
 pub overlap-no : (P : Points) (i j : ℕ) → columnsMeet P i j ≡ false → false ≡ overlapB P i j
 overlap-no P i j e = rw e
@@ -40,20 +41,24 @@ hits-below P i j e = rw e
 pub hits-above : (P : Points) (i j : ℕ) → leb (P .row i) (P .row j) ≡ true → ltb (P .row j) (P .row i + P .h) ≡ false → false ≡ hitsB P i j
 hits-above P i j e q = rw (e, q)
 
-pub hits-columns : (P : Points) (i j : ℕ) (r : Bool) → leb (P .row i) (P .row j) ≡ true → ltb (P .row j) (P .row i + P .h) ≡ true → r ≡ leb (P .column i) (P .column j) → r ≡ hitsB P i j
+pub hits-columns : (P : Points) (i j : ℕ) (r : Bool) → leb (P .row i) (P .row j) ≡ true
+    → ltb (P .row j) (P .row i + P .h) ≡ true → r ≡ leb (P .column i) (P .column j) → r ≡ hitsB P i j
 hits-columns P i j r e q c = rw (e, q) c
 
 -- A PAIR'S CLASH, by where the two points are labeled
 
-pub pair-labels : (P : Points) (S : Choice) (i j : ℕ) (r : Clash) → S i ≡ true → S j ≡ true → r ≡ clashIf (overlapB P i j) i j Labels → r ≡ pairClash P S i j
+pub pair-labels : (P : Points) (S : Choice) (i j : ℕ) (r : Clash)
+    → S i ≡ true → S j ≡ true → r ≡ clashIf (overlapB P i j) i j Labels → r ≡ pairClash P S i j
 unfolding pairClash
 pair-labels P S i j r a b e = rw (a, b) e
 
-pub pair-leader-second : (P : Points) (S : Choice) (i j : ℕ) (r : Clash) → S i ≡ true → S j ≡ false → r ≡ clashIf (hitsB P i j) i j LabelAndLeader → r ≡ pairClash P S i j
+pub pair-leader-second : (P : Points) (S : Choice) (i j : ℕ) (r : Clash)
+    → S i ≡ true → S j ≡ false → r ≡ clashIf (hitsB P i j) i j LabelAndLeader → r ≡ pairClash P S i j
 unfolding pairClash
 pair-leader-second P S i j r a b e = rw (a, b) e
 
-pub pair-leader-first : (P : Points) (S : Choice) (i j : ℕ) (r : Clash) → S i ≡ false → S j ≡ true → r ≡ clashIf (hitsB P j i) i j LabelAndLeader → r ≡ pairClash P S i j
+pub pair-leader-first : (P : Points) (S : Choice) (i j : ℕ) (r : Clash)
+    → S i ≡ false → S j ≡ true → r ≡ clashIf (hitsB P j i) i j LabelAndLeader → r ≡ pairClash P S i j
 unfolding pairClash
 pair-leader-first P S i j r a b e = rw (a, b) e
 

@@ -9,9 +9,9 @@ use lib.Seq.{ext-getD, take-suc, getD-append-add, getD-set-same, getD-set-other}
 use borrow.Author.Tests.{eq-eqb, ne-eqb}
 use native.Mathlib.Numerals.{add-one}
 use native.Mathlib.Omega.{arith}
-use Rattle.labeling.specs.Points.{Points, Choice}
-use Rattle.labeling.specs.Tests.{same, or-right, or-false}
-use Rattle.labeling.specs.Margin.{among, among-last}
+use Rattle.labeling.specs.Points.{Points, Choice, among}
+use Rattle.labeling.specs.Decide.{same, or-right, or-false}
+use Rattle.labeling.specs.Margin.{among-last}
 use Rattle.format.specs.Plate.{choiceOf}
 use Rattle.clash.specs.declared.Clash.{Clash}
 use Rattle.clash.specs.FirstClash.{pairClash, firstOf, orderedClash, clashOf, firstClash}
@@ -55,7 +55,8 @@ pub flags-hold : (flags : List Bool) (list : List ℕ) → flags ≡ flagsOf lis
 flags-hold flags list e i l = rw e (flags-at (choiceOf list) 256 i l)
 
 -- 256 flags that hold a list's choice are the list's
-flags-are : (flags : List Bool) (list : List ℕ) → length flags ≡ 256 → ((i : ℕ) → i < 256 → held flags i ≡ choiceOf list i) → flags ≡ flagsOf list
+flags-are : (flags : List Bool) (list : List ℕ) → length flags ≡ 256 → ((i : ℕ) → i < 256 → held flags i ≡ choiceOf list i)
+    → flags ≡ flagsOf list
 flags-are flags list long at =
     ext-getD false flags (flagsOf list) (long ∙ sym (flags-length (choiceOf list) 256))
     (λ i l. let m : i < 256 = omega arith in at i m ∙ sym (flags-at (choiceOf list) 256 i m))
@@ -66,7 +67,8 @@ pub flags-none : nobodyInside ≡ flagsOf []
 unfolding nobodyInside among
 flags-none = flags-are nobodyInside [] refl (λ i l. getD-replicate 256 i false false l)
 
-pub flags-more : (flags : List Bool) (list : List ℕ) (k : ℕ) → k < length list → getD list k 0 < 256 → flags ≡ flagsOf (take k list) → set flags (getD list k 0) true ≡ flagsOf (take (k + 1) list)
+pub flags-more : (flags : List Bool) (list : List ℕ) (k : ℕ) → k < length list → getD list k 0 < 256 → flags ≡ flagsOf (take k list)
+    → set flags (getD list k 0) true ≡ flagsOf (take (k + 1) list)
 flags-more flags list k l b h =
     let x = getD list k 0 in
     let e : take (k + 1) list ≡ take k list ++ (x ∷ []) = rw (add-one, take-suc list k 0) in
@@ -75,8 +77,14 @@ flags-more flags list k l b h =
     flags-are (set flags x true) (take (k + 1) list) (length-set flags x true ∙ long)
     (λ i lt. rw (e, among-last i x (take k list))
     (same i x
-    (λ q. ap (λ j. getD (set flags x true) j false) q ∙ getD-set-same flags x true false m ∙ sym (or-right (among i (take k list)) (eqb i x) (eq-eqb i x q)))
-    (λ ne. getD-set-other flags x i true false ne ∙ flags-hold flags (take k list) h i lt ∙ sym (ap (λ t. among i (take k list) || t) (ne-eqb i x ne) ∙ or-false (among i (take k list))))))
+    (λ q.
+    ap (λ j. getD (set flags x true) j false) q
+    ∙ getD-set-same flags x true false m
+    ∙ sym (or-right (among i (take k list)) (eqb i x) (eq-eqb i x q)))
+    (λ ne.
+    getD-set-other flags x i true false ne
+    ∙ flags-hold flags (take k list) h i lt
+    ∙ sym (ap (λ t. among i (take k list) || t) (ne-eqb i x ne) ∙ or-false (among i (take k list))))))
 
 -- ONLY POSITIONS BELOW n MATTER to the first clash.
 

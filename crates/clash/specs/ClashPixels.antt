@@ -11,7 +11,8 @@ use native.Mathlib.Omega.{arith}
 use Rattle.labeling.specs.Points.{Points, Choice, DistinctRows}
 use Rattle.labeling.specs.Marks.{Shared, Valid}
 use Rattle.labeling.specs.Conflicts.{Conflict, Free}
-use Rattle.labeling.specs.Tests.{not-both, decide, same, Decides, dec-overlap, dec-hits}
+use Rattle.labeling.specs.Decide.{not-both, decide, same, Decides}
+use Rattle.labeling.specs.Tests.{dec-overlap, dec-hits}
 use Rattle.labeling.specs.Pixels.{shared-conflict, conflict-shared, free-valid, valid-free}
 use Rattle.labeling.specs.ConflictTable.{conflict-sym}
 use Rattle.format.specs.Sheet.{pointsOf}
@@ -62,7 +63,8 @@ unfolding firstOf
 first-at f zero e = absurd (none-between refl e)
 first-at f (suc m) {i} {j} {k} e = which (or-between (firstOf f m) (f m) e) (first-at f m)
   where
-    which : (firstOf f m ≡ Between i j k) ⊎ ((firstOf f m ≡ None) × (f m ≡ Between i j k)) → (firstOf f m ≡ Between i j k → FirstAt f m (Between i j k)) → FirstAt f (suc m) (Between i j k)
+    which : (firstOf f m ≡ Between i j k) ⊎ ((firstOf f m ≡ None) × (f m ≡ Between i j k))
+        → (firstOf f m ≡ Between i j k → FirstAt f m (Between i j k)) → FirstAt f (suc m) (Between i j k)
     which (inl q) ih = let r = ih q in record { at = r .at; below = omega (arith, r .below); is = r .is; earlier = r .earlier }
     which (inr q) ih = record { at = m; below = omega arith; is = q .1; earlier = none-first f m (q .0) }
 
@@ -79,7 +81,8 @@ data PairIs (P : Points) (S : Choice) (i j : ℕ) : Clash → Type 0 where
   met : {k : ClashKind} → Conflict P S i j → KindOf k (S i) (S j) → PairIs P S i j (Between i j k)
 
 -- by the test that decides whether the pair conflicts
-pair-if : (P : Points) (S : Choice) (i j : ℕ) (k : ClashKind) {b : Bool} {A : Type 0} → Decides b A → (A → Conflict P S i j) → (Conflict P S i j → A) → KindOf k (S i) (S j) → PairIs P S i j (clashIf b i j k)
+pair-if : (P : Points) (S : Choice) (i j : ℕ) (k : ClashKind) {b : Bool} {A : Type 0}
+    → Decides b A → (A → Conflict P S i j) → (Conflict P S i j → A) → KindOf k (S i) (S j) → PairIs P S i j (clashIf b i j k)
 pair-if P S i j k {b} d to of kind =
     decide b
     (λ e. rw e (met (to (d .is e)) kind))
@@ -100,7 +103,8 @@ pair-none : {P : Points} {S : Choice} {i j : ℕ} {c : Clash} → PairIs P S i j
 pair-none (apart not) e = not
 pair-none (met c kind) e = absurd (none-between e refl)
 
-pair-met : {P : Points} {S : Choice} {i j a b : ℕ} {k : ClashKind} {c : Clash} → PairIs P S i j c → c ≡ Between a b k → (i ≡ a) × (j ≡ b) × Conflict P S i j × KindOf k (S i) (S j)
+pair-met : {P : Points} {S : Choice} {i j a b : ℕ} {k : ClashKind} {c : Clash} → PairIs P S i j c → c ≡ Between a b k
+    → (i ≡ a) × (j ≡ b) × Conflict P S i j × KindOf k (S i) (S j)
 pair-met (apart not) e = absurd (none-between refl e)
 pair-met {P} {S} {i} {j} {a} {b} {k} (met {k = m} c kind) e =
     let q : m ≡ k = cc in
@@ -174,7 +178,8 @@ module _ (P : Points) (S : Choice) (wide : 1 ≤ P .w) (d : DistinctRows P) wher
   none-valid = (λ e. free-valid P S (none-free e), λ v. free-none (valid-free P S wide v))
 
   -- a pair that comes before i and j
-  apart-before : {i j : ℕ} → ((a : ℕ) → a < i → clashOf P S a ≡ None) → ((b : ℕ) → b < j → orderedClash P S i b ≡ None) → (a b : ℕ) → a < b → b < P .n → (a < i) ⊎ ((a ≡ i) × (b < j)) → Conflict P S a b → ⊥
+  apart-before : {i j : ℕ} → ((a : ℕ) → a < i → clashOf P S a ≡ None) → ((b : ℕ) → b < j → orderedClash P S i b ≡ None)
+      → (a b : ℕ) → a < b → b < P .n → (a < i) ⊎ ((a ≡ i) × (b < j)) → Conflict P S a b → ⊥
   apart-before f g a b l m (inl y) c = later-apart a (f a y) b l m c
   apart-before {i} {j} f g a b l m (inr y) c =
       let o : cond (ltb i b) (pairClash P S i b) None ≡ None = g b (y .1) in
@@ -188,7 +193,8 @@ module _ (P : Points) (S : Choice) (wide : 1 ≤ P .w) (d : DistinctRows P) wher
       let y = first-at (orderedClash P S (x .at)) (P .n) (x .is) in
       named (x .at) (y .at) (y .below) (y .is) (x .earlier) (y .earlier)
     where
-      named : (a b : ℕ) → b < P .n → orderedClash P S a b ≡ Between i j k → ((c : ℕ) → c < a → clashOf P S c ≡ None) → ((c : ℕ) → c < b → orderedClash P S a c ≡ None) → Named P S i j k
+      named : (a b : ℕ) → b < P .n → orderedClash P S a b ≡ Between i j k → ((c : ℕ) → c < a → clashOf P S c ≡ None)
+          → ((c : ℕ) → c < b → orderedClash P S a c ≡ None) → Named P S i j k
       named a b m q f g =
           decide (ltb a b)
           (λ t. let l : a < b = ltb-true a b t in
@@ -224,7 +230,9 @@ module _ (P : Points) (S : Choice) (wide : 1 ≤ P .w) (d : DistinctRows P) wher
   named-between {i} {j} {k} x = which (firstClash P S) refl
     where
       which : (c : Clash) → firstClash P S ≡ c → firstClash P S ≡ Between i j k
-      which None e = absurd (none-valid .0 e .apart (x .shared .0) i j (omega (arith, x .ordered, x .below)) (x .below) (λ q. omega (arith, x .ordered)) (x .shared .1) (x .shared .2))
+      which None e =
+          absurd (none-valid .0 e .apart (x .shared .0) i j (omega (arith, x .ordered, x .below))
+          (x .below) (λ q. omega (arith, x .ordered)) (x .shared .1) (x .shared .2))
       which (Between a b m) e = e ∙ named-once (between-named e) x
 
   -- A PAIR EXACTLY IF DOCUMENT 01 NAMES IT

@@ -1,3 +1,6 @@
+-- WHAT A READER MUST BELIEVE: the first clash, by tests. (Or believe the theorem below: it says the same over pixels.)
 pub mod FirstClash
-pub mod ClashPixels
+-- A choice as flags, which contracts of the steps cite, with its facts.
 pub mod ChoiceFlags
+-- THEOREM: on an accepted sheet, the first clash is that of the first two points that mark one pixel.
+pub mod ClashPixels

@@ -6,12 +6,11 @@ use format::point_count;
 use format::row;
 use format::within;
 ghost use mathlib.Core.Path.{_≡_};
-ghost use Prim.Native.Nat.{_+_, _<_};
-ghost use mathlib.Core.Bool.{_&&_};
-ghost use lib.Dec.{ltb};
+ghost use Prim.Native.Nat.{_<_};
 ghost use Rattle.labeling.specs.Conflicts.{overlapB, hitsB};
 ghost use Rattle.format.specs.Sheet.{pointCount, pointsOf};
 ghost use Rattle.format.specs.Plate.{choiceOf};
+ghost use Rattle.format.specs.Stretches.{stretchesOverlap};
 ghost use Rattle.clash.specs.FirstClash.{isClash, clashIf, pairClash, clashOf, firstClash};
 ghost use Rattle.clash.specs.ChoiceFlags.{nobodyInside, held, flagsOf};
 
@@ -69,7 +68,7 @@ pub fn choice_of(list: &[u8]) -> [bool; 256]
 
 // Two stretches of one length, from `a` and from `b`, share a place.
 fn stretches_overlap(a: u16, b: u16, length: u16) -> bool
-    ensures { λ r. ⌜ r ≡ (ltb a (b + length) && ltb b (a + length)) ⌝ }
+    ensures { λ r. ⌜ r ≡ stretchesOverlap a b length ⌝ }
 {
     if within(a, b, length) {
         return within(b, a, length);

@@ -39,11 +39,15 @@ loop-less c = search needs
 loop-again : tie.Need-loop-again Inv-loop μ-loop
 loop-again c =
     let list = c .before .before .before .before .before .args .list .now in
-    let k = c .before .before .loop .k in
-    (search needs, flags-more (c .before .before .loop .inside) list k (omega arith) (omega (arith, c .shared-slice-known2 .given k)) (c .before .before .loop .inv .1))
+    let k = c .before .before .loop .k in (
+      search needs,
+      flags-more (c .before .before .loop .inside) list k (omega arith)
+          (omega (arith, c .shared-slice-known2 .given k)) (c .before .before .loop .inv .1),
+    )
 
 returns : tie.Need-returns Inv-loop μ-loop
-returns c = c .before .loop .inv .1 ∙ ap flagsOf (take-all (c .before .loop .k) (c .before .before .before .before .args .list .now) (omega arith))
+returns c =
+    c .before .loop .inv .1 ∙ ap flagsOf (take-all (c .before .loop .k) (c .before .before .before .before .args .list .now) (omega arith))
 
 pub choice-of-spec : {M : Type 1} → statement M
 choice-of-spec =

@@ -28,7 +28,11 @@ loop-holds : tie.Need-loop-holds Inv-loop μ-loop
 loop-holds c = (search needs, search needs, c .point-count .ensures, ordered-below _ _ _)
 
 -- the pair's clash, at its place among those of `first`
-pair-found : (c : tie.After-is-clash Inv-loop μ-loop) → c .before .pair-clash .result ≡ orderedClash (pointsOf (c .before .before .before .before .before .before .args .sheet .now)) (held (c .before .before .before .before .before .before .args .inside .now)) (c .before .before .before .before .before .before .args .first) (c .before .before .before .loop .second)
+pair-found : (c : tie.After-is-clash Inv-loop μ-loop)
+    → c .before .pair-clash .result
+    ≡ orderedClash (pointsOf (c .before .before .before .before .before .before .args .sheet .now))
+    (held (c .before .before .before .before .before .before .args .inside .now))
+    (c .before .before .before .before .before .before .args .first) (c .before .before .before .loop .second)
 pair-found c = c .before .pair-clash .ensures ∙ sym (ordered-above _ _ _ _ (c .before .before .before .loop .inv .0))
 
 pair-clash-requires : tie.Need-pair-clash-requires Inv-loop μ-loop
@@ -41,8 +45,10 @@ returns : tie.Need-returns Inv-loop μ-loop
 unfolding clashOf
 returns c =
     let e = pair-found (c .before) in
-    let n : c .before .before .before .before .loop .second < pointCount (c .before .before .before .before .before .before .before .args .sheet .now) = omega arith in
-    e ∙ first-found _ _ _ (c .before .before .before .before .loop .inv .3) (ap isClash (sym e) ∙ sym (c .before .is-clash .ensures) ∙ c .if1 .taken) n
+    let n : c .before .before .before .before .loop .second
+    < pointCount (c .before .before .before .before .before .before .before .args .sheet .now) = omega arith in
+    e ∙ first-found _ _ _ (c .before .before .before .before .loop .inv .3)
+    (ap isClash (sym e) ∙ sym (c .before .is-clash .ensures) ∙ c .if1 .taken) n
 
 add-second-2 : tie.Need-add-second-2 Inv-loop μ-loop
 add-second-2 c = search needs
@@ -52,8 +58,13 @@ loop-less c = search needs
 
 loop-again : tie.Need-loop-again Inv-loop μ-loop
 loop-again c =
-    let e = pair-found (c .before) in
-    (search needs, search needs, search needs, first-more _ _ (c .before .before .before .before .loop .inv .3) (ap isClash (sym e) ∙ sym (c .before .is-clash .ensures) ∙ c .if1 .left))
+    let e = pair-found (c .before) in (
+      search needs,
+      search needs,
+      search needs,
+      first-more _ _ (c .before .before .before .before .loop .inv .3)
+          (ap isClash (sym e) ∙ sym (c .before .is-clash .ensures) ∙ c .if1 .left),
+    )
 
 returns-2 : tie.Need-returns-2 Inv-loop μ-loop
 unfolding clashOf

@@ -15,7 +15,8 @@ first-clash-of-requires c κs = search needs
 returns : tie.Need-returns
 returns c =
     let known = c .before .before .before .before .shared-slice-known .given 9 in
-    c .first-clash-of .ensures ∙ first-clash-same _ _ _ (λ i l. flags-hold _ _ (c .before .before .choice-of .ensures) i (omega (arith, known)))
+    c .first-clash-of .ensures
+    ∙ first-clash-same _ _ _ (λ i l. flags-hold _ _ (c .before .before .choice-of .ensures) i (omega (arith, known)))
 
 pub first-clash-spec : {M : Type 1} → statement M
 first-clash-spec = tie.close (tie.spec choice-of-requires first-clash-of-requires returns)

@@ -35,8 +35,10 @@ returns : tie.Need-returns Inv-loop μ-loop
 unfolding firstClash
 returns c =
     let e = c .before .before .clash-of .ensures in
-    let n : c .before .before .before .before .loop .first < pointCount (c .before .before .before .before .before .before .before .args .sheet .now) = omega arith in
-    e ∙ first-found _ _ _ (c .before .before .before .before .loop .inv .1) (ap isClash (sym e) ∙ sym (c .before .is-clash .ensures) ∙ c .if1 .taken) n
+    let n : c .before .before .before .before .loop .first
+    < pointCount (c .before .before .before .before .before .before .before .args .sheet .now) = omega arith in
+    e ∙ first-found _ _ _ (c .before .before .before .before .loop .inv .1)
+    (ap isClash (sym e) ∙ sym (c .before .is-clash .ensures) ∙ c .if1 .taken) n
 
 add-first : tie.Need-add-first Inv-loop μ-loop
 add-first c = search needs
@@ -46,8 +48,11 @@ loop-less c = search needs
 
 loop-again : tie.Need-loop-again Inv-loop μ-loop
 loop-again c =
-    let e = c .before .before .clash-of .ensures in
-    (search needs, first-more _ _ (c .before .before .before .before .loop .inv .1) (ap isClash (sym e) ∙ sym (c .before .is-clash .ensures) ∙ c .if1 .left))
+    let e = c .before .before .clash-of .ensures in (
+      search needs,
+      first-more _ _ (c .before .before .before .before .loop .inv .1)
+          (ap isClash (sym e) ∙ sym (c .before .is-clash .ensures) ∙ c .if1 .left),
+    )
 
 returns-2 : tie.Need-returns-2 Inv-loop μ-loop
 unfolding firstClash

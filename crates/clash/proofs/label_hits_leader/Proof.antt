@@ -19,7 +19,8 @@ row-requires-2 c κs = search needs
 returns : tie.Need-returns
 returns c =
     let a = c .before .before .before .before .args in
-    hits-below (pointsOf (a .sheet .now)) (a .i) (a .j) (ap₂ leb (sym (c .before .before .row .ensures)) (sym (c .before .row2 .ensures)) ∙ lt-leb _ _ (c .if1 .taken))
+    hits-below (pointsOf (a .sheet .now)) (a .i) (a .j)
+    (ap₂ leb (sym (c .before .before .row .ensures)) (sym (c .before .row2 .ensures)) ∙ lt-leb _ _ (c .if1 .taken))
 
 label-height-requires : tie.Need-label-height-requires
 label-height-requires c κs = search needs
@@ -28,11 +29,16 @@ within-requires : tie.Need-within-requires
 within-requires c κs = search needs
 
 -- the leader's row is not below the label
-row-reached : (c : tie.Else1) → leb (row (c .before .before .before .before .args .sheet .now) (c .before .before .before .before .args .i)) (row (c .before .before .before .before .args .sheet .now) (c .before .before .before .before .args .j)) ≡ true
+row-reached : (c : tie.Else1)
+    → leb (row (c .before .before .before .before .args .sheet .now) (c .before .before .before .before .args .i))
+    (row (c .before .before .before .before .args .sheet .now) (c .before .before .before .before .args .j)) ≡ true
 row-reached c = ap₂ leb (sym (c .before .before .row .ensures)) (sym (c .before .row2 .ensures)) ∙ le-leb _ _ (c .if1 .left)
 
 -- whether it is below the label's top
-height-reached : (c : tie.After-within) → c .within .result ≡ (let a = c .before .before .before .before .before .before .args in ltb (row (a .sheet .now) (a .j)) (row (a .sheet .now) (a .i) + labelHeight (a .sheet .now)))
+height-reached : (c : tie.After-within)
+    → c .within .result
+    ≡ (let a = c .before .before .before .before .before .before .args in
+    ltb (row (a .sheet .now) (a .j)) (row (a .sheet .now) (a .i) + labelHeight (a .sheet .now)))
 height-reached c = cc
 
 column-requires : tie.Need-column-requires
@@ -45,7 +51,8 @@ returns-2 : tie.Need-returns-2
 returns-2 c =
     let a = c .before .before .before .before .before .before .before .before .before .args in
     let w = c .before .before .before in
-    hits-columns (pointsOf (a .sheet .now)) (a .i) (a .j) _ (row-reached (w .before .before)) (sym (height-reached w) ∙ c .before .before .if2 .taken) (ap₂ leb (c .before .column .ensures) (c .column2 .ensures))
+    hits-columns (pointsOf (a .sheet .now)) (a .i) (a .j) _ (row-reached (w .before .before))
+    (sym (height-reached w) ∙ c .before .before .if2 .taken) (ap₂ leb (c .before .column .ensures) (c .column2 .ensures))
 
 returns-3 : tie.Need-returns-3
 returns-3 c =

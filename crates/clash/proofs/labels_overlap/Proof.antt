@@ -19,7 +19,10 @@ stretches-overlap-requires : tie.Need-stretches-overlap-requires
 stretches-overlap-requires c κs = search needs
 
 -- the columns
-columns : (c : tie.After-stretches-overlap) → c .stretches-overlap .result ≡ columnsMeet (pointsOf (c .before .before .before .before .before .args .sheet .now)) (c .before .before .before .before .before .args .i) (c .before .before .before .before .before .args .j)
+columns : (c : tie.After-stretches-overlap)
+    → c .stretches-overlap .result
+    ≡ columnsMeet (pointsOf (c .before .before .before .before .before .args .sheet .now))
+    (c .before .before .before .before .before .args .i) (c .before .before .before .before .before .args .j)
 columns c = cc
 
 row-requires : tie.Need-row-requires
@@ -38,7 +41,8 @@ returns : tie.Need-returns
 returns c =
     let a = c .before .before .before .before .before .before .before .before .before .before .args in
     let rows : c .stretches-overlap2 .result ≡ rowsMeet (pointsOf (a .sheet .now)) (a .i) (a .j) = cc in
-    overlap-rows (pointsOf (a .sheet .now)) (a .i) (a .j) _ (sym (columns (c .before .before .before .before .before)) ∙ c .before .before .before .before .if1 .taken) rows
+    overlap-rows (pointsOf (a .sheet .now)) (a .i) (a .j) _
+    (sym (columns (c .before .before .before .before .before)) ∙ c .before .before .before .before .if1 .taken) rows
 
 returns-2 : tie.Need-returns-2
 returns-2 c =

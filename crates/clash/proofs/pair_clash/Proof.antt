@@ -22,7 +22,8 @@ clash-if-requires c κs = search needs
 returns : tie.Need-returns
 returns c =
     let a = c .before .before .before .before .before .before .before .args in
-    pair-labels _ _ _ _ _ (c .before .before .before .if1 .taken) (c .before .before .if2 .taken) (c .clash-if .ensures ∙ ap (λ met. clashIf met (a .i) (a .j) Labels) (c .before .labels-overlap .ensures))
+    pair-labels _ _ _ _ _ (c .before .before .before .if1 .taken) (c .before .before .if2 .taken)
+    (c .clash-if .ensures ∙ ap (λ met. clashIf met (a .i) (a .j) Labels) (c .before .labels-overlap .ensures))
 
 label-hits-leader-requires : tie.Need-label-hits-leader-requires
 label-hits-leader-requires c κs = search needs
@@ -33,7 +34,8 @@ clash-if-requires-2 c κs = search needs
 returns-2 : tie.Need-returns-2
 returns-2 c =
     let a = c .before .before .before .before .before .before .before .args in
-    pair-leader-second _ _ _ _ _ (c .before .before .before .if1 .taken) (c .before .before .if2 .left) (c .clash-if2 .ensures ∙ ap (λ met. clashIf met (a .i) (a .j) LabelAndLeader) (c .before .label-hits-leader .ensures))
+    pair-leader-second _ _ _ _ _ (c .before .before .before .if1 .taken) (c .before .before .if2 .left)
+    (c .clash-if2 .ensures ∙ ap (λ met. clashIf met (a .i) (a .j) LabelAndLeader) (c .before .label-hits-leader .ensures))
 
 label-hits-leader-requires-2 : tie.Need-label-hits-leader-requires-2
 label-hits-leader-requires-2 c κs = search needs
@@ -44,7 +46,8 @@ clash-if-requires-3 c κs = search needs
 returns-3 : tie.Need-returns-3
 returns-3 c =
     let a = c .before .before .before .before .before .before .before .args in
-    pair-leader-first _ _ _ _ _ (c .before .before .before .if1 .left) (c .before .before .if3 .taken) (c .clash-if3 .ensures ∙ ap (λ met. clashIf met (a .i) (a .j) LabelAndLeader) (c .before .label-hits-leader2 .ensures))
+    pair-leader-first _ _ _ _ _ (c .before .before .before .if1 .left) (c .before .before .if3 .taken)
+    (c .clash-if3 .ensures ∙ ap (λ met. clashIf met (a .i) (a .j) LabelAndLeader) (c .before .label-hits-leader2 .ensures))
 
 returns-4 : tie.Need-returns-4
 returns-4 c = pair-leaders _ _ _ _ (c .before .if1 .left) (c .if3 .left)
