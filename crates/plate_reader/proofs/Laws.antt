@@ -1,6 +1,6 @@
 -- Facts about the tests of a plate, for the proofs of this crate. Assumes nothing.
 use mathlib.Core.Path.{_≡_, refl, ap, _∙_}
-use mathlib.Core.Bool.{Bool, true, false, not}
+use mathlib.Core.Bool.{Bool, true, false, not, _&&_}
 use mathlib.Core.List.{List, [], _∷_}
 use Prim.Native.Nat.{ℕ, suc, _+_, _*_, _-_, _≤_, _<_}
 use lib.Dec.{ltb, eqb}
@@ -10,12 +10,14 @@ use borrow.Author.Tests.{lt-ltb, le-ltb, eq-eqb, ne-eqb}
 use native.Mathlib.Numerals.{add-one}
 use native.Mathlib.Omega.{arith}
 use Rattle.labeling.specs.Points.{Points, Choice, before, nextMargin}
-use Rattle.labeling.specs.Tests.{same}
+use Rattle.labeling.specs.Decide.{same}
 use Rattle.format.specs.Sheet.{pointCount, pointsOf, plateSheetNo}
 use Rattle.format.specs.Accepted.{none-plate-sheet}
 use Rattle.format.specs.Plate.{choiceOf}
+use Rattle.format.specs.Ascending.{belowNext, ascending}
 use Rattle.clash.specs.ChoiceFlags.{held, flagsOf, flags-hold}
-use Rattle.plate_reader.specs.PlateQuestions.{sheetOf, insideCount, insideStart, insideList, outsideStart, outsideCount, outsidePairs, sectionsFit, belowFirst, ascending, pairsRight, plateNo, handedBack, handedBackAt}
+use Rattle.plate_reader.specs.PlateQuestions.{sheetOf, insideCount, insideStart, insideList, outsideStart, outsideCount}
+use Rattle.plate_reader.specs.PlateQuestions.{outsidePairs, sectionsFit, pairsRight, plateNo, handedBack, handedBackAt}
 use Rattle.plate_reader.specs.OutsideWalk.{outsidePoint, pairFollows, pairsAfter, pairsFollow, follow-same}
 use Rattle.plate_reader.specs.PlateSections.{dec-fit, none-plate, start-accepted}
 use Rattle.plate_reader.specs.PlateWalk.{walk-answers}
@@ -27,16 +29,17 @@ pub fit-no : (p : List ℕ) → (length p ≡ outsideStart p + 1 + 2 * outsideCo
 unfolding sectionsFit
 fit-no p ne = rw (ne-eqb (length p) (outsideStart p + 1 + 2 * outsideCount p) ne)
 
-pub fit-sum : (p : List ℕ) (r : Bool) → length p ≡ outsideStart p + 1 + 2 * outsideCount p → r ≡ eqb (insideCount p + outsideCount p) (pointCount p) → r ≡ sectionsFit p
+pub fit-sum : (p : List ℕ) (r : Bool) → length p ≡ outsideStart p + 1 + 2 * outsideCount p
+    → r ≡ eqb (insideCount p + outsideCount p) (pointCount p) → r ≡ sectionsFit p
 unfolding sectionsFit
 fit-sum p r e q = rw (eq-eqb (length p) (outsideStart p + 1 + 2 * outsideCount p) e) q
 
 -- 42, at place k of the list
 
-pub next-is : (x k : ℕ) (l : List ℕ) → k + 1 < length l → ltb x (getD l (k + 1) 0) ≡ belowFirst x (drop (k + 1) l)
+pub next-is : (x k : ℕ) (l : List ℕ) → k + 1 < length l → ltb x (getD l (k + 1) 0) ≡ belowNext x (drop (k + 1) l)
 next-is x k l m = rw (drop-cons l (k + 1) 0 m)
 
-pub next-none : (x k : ℕ) (l : List ℕ) → length l ≤ k + 1 → true ≡ belowFirst x (drop (k + 1) l)
+pub next-none : (x k : ℕ) (l : List ℕ) → length l ≤ k + 1 → true ≡ belowNext x (drop (k + 1) l)
 next-none x k l m = rw (drop-of-length-le l m)
 
 module _ (n k : ℕ) (l : List ℕ) where
@@ -47,11 +50,12 @@ module _ (n k : ℕ) (l : List ℕ) where
   unfolding ascending
   up-high m h = rw (step m, le-ltb (getD l k 0) n h)
 
-  pub up-next : k < length l → getD l k 0 < n → belowFirst (getD l k 0) (drop (k + 1) l) ≡ false → ascending n (drop k l) ≡ false
+  pub up-next : k < length l → getD l k 0 < n → belowNext (getD l k 0) (drop (k + 1) l) ≡ false → ascending n (drop k l) ≡ false
   unfolding ascending
   up-next m h e = rw (step m, lt-ltb (getD l k 0) n h, e)
 
-  pub up-more : k < length l → getD l k 0 < n → belowFirst (getD l k 0) (drop (k + 1) l) ≡ true → ascending n (drop k l) ≡ ascending n (drop (k + 1) l)
+  pub up-more : k < length l → getD l k 0 < n → belowNext (getD l k 0) (drop (k + 1) l) ≡ true
+      → ascending n (drop k l) ≡ ascending n (drop (k + 1) l)
   unfolding ascending
   up-more m h e = rw (step m, lt-ltb (getD l k 0) n h, e)
 
@@ -98,14 +102,16 @@ module _ (P : Points) (S : Choice) (j k at : ℕ) (b : List ℕ) where
   two-more l =
       let one : drop at b ≡ getD b at 0 ∷ drop (at + 1) b = rw (add-one, drop-cons b at 0 (omega arith)) in
       let place : suc (at + 1) ≡ at + 2 = omega arith in
-      let two : drop (at + 1) b ≡ getD b (at + 1) 0 ∷ drop (at + 2) b = drop-cons b (at + 1) 0 l ∙ ap (λ n. getD b (at + 1) 0 ∷ drop n b) place in
+      let two : drop (at + 1) b ≡ getD b (at + 1) 0 ∷ drop (at + 2) b =
+      drop-cons b (at + 1) 0 l ∙ ap (λ n. getD b (at + 1) 0 ∷ drop n b) place in
       one ∙ ap (λ t. getD b at 0 ∷ t) two
 
   pub after-no : at + 1 < length b → pairFollows P S j k (getD b at 0) (getD b (at + 1) 0) ≡ false → pairsAfter P S j k (drop at b) ≡ false
   unfolding pairsAfter
   after-no l e = rw (two-more l, e)
 
-  pub after-more : at + 1 < length b → pairFollows P S j k (getD b at 0) (getD b (at + 1) 0) ≡ true → pairsAfter P S j k (drop at b) ≡ pairsAfter P S (getD b at 0) (getD b (at + 1) 0) (drop (at + 2) b)
+  pub after-more : at + 1 < length b → pairFollows P S j k (getD b at 0) (getD b (at + 1) 0) ≡ true
+      → pairsAfter P S j k (drop at b) ≡ pairsAfter P S (getD b at 0) (getD b (at + 1) 0) (drop (at + 2) b)
   unfolding pairsAfter
   after-more l e = rw (two-more l, e)
 
@@ -138,37 +144,38 @@ module _ (P : Points) (S : Choice) where
   pairs-one (x ∷ []) e = refl
   pairs-one (x ∷ y ∷ b) e = absurd (omega arith)
 
-  pub pairs-point : (b : List ℕ) → 1 < length b → outsidePoint P S (getD b 0 0) ≡ false → false ≡ pairsFollow P S b
+  -- the first pair, and those after it
+  pairs-first : (b : List ℕ) → 1 < length b
+      → pairsFollow P S b ≡ (outsidePoint P S (getD b 0 0) && (eqb (getD b 1 0) 0 && pairsAfter P S (getD b 0 0) (getD b 1 0) (drop 2 b)))
   unfolding pairsFollow
-  pairs-point [] l e = absurd (omega arith)
-  pairs-point (x ∷ []) l e = absurd (omega arith)
-  pairs-point (x ∷ y ∷ b) l e = rw e
+  pairs-first [] l = absurd (omega arith)
+  pairs-first (x ∷ []) l = absurd (omega arith)
+  pairs-first (x ∷ y ∷ b) l = refl
+
+  pub pairs-point : (b : List ℕ) → 1 < length b → outsidePoint P S (getD b 0 0) ≡ false → false ≡ pairsFollow P S b
+  pairs-point b l e = rw (pairs-first b l, e)
 
   pub pairs-margin : (b : List ℕ) → 1 < length b → outsidePoint P S (getD b 0 0) ≡ true → (getD b 1 0 ≡ 0 → ⊥) → false ≡ pairsFollow P S b
-  unfolding pairsFollow
-  pairs-margin [] l e ne = absurd (omega arith)
-  pairs-margin (x ∷ []) l e ne = absurd (omega arith)
-  pairs-margin (x ∷ y ∷ b) l e ne = rw (e, ne-eqb y 0 ne)
-
-  pairs-on : (b : List ℕ) → 1 < length b → outsidePoint P S (getD b 0 0) ≡ true → getD b 1 0 ≡ 0 → pairsAfter P S (getD b 0 0) (getD b 1 0) (drop 2 b) ≡ pairsFollow P S b
-  unfolding pairsFollow
-  pairs-on [] l e z = absurd (omega arith)
-  pairs-on (x ∷ []) l e z = absurd (omega arith)
-  pairs-on (x ∷ y ∷ b) l e z = rw (e, eq-eqb y 0 z)
+  pairs-margin b l e ne = rw (pairs-first b l, e, ne-eqb (getD b 1 0) 0 ne)
 
   -- the code's `&pairs[2..]`
-  pub pairs-rest : (b : List ℕ) (r : Bool) → 1 < length b → outsidePoint P S (getD b 0 0) ≡ true → getD b 1 0 ≡ 0 → r ≡ pairsAfter P S (getD b 0 0) (getD b 1 0) (take (length b - 2) (drop 2 b)) → r ≡ pairsFollow P S b
+  pub pairs-rest : (b : List ℕ) (r : Bool) → 1 < length b → outsidePoint P S (getD b 0 0) ≡ true → getD b 1 0 ≡ 0
+      → r ≡ pairsAfter P S (getD b 0 0) (getD b 1 0) (take (length b - 2) (drop 2 b)) → r ≡ pairsFollow P S b
   pairs-rest b r l e z q =
       let all : length (drop 2 b) ≤ length b - 2 = rw (length-drop 2 b) (omega arith) in
-      q ∙ rw (take-all (length b - 2) (drop 2 b) all) (pairs-on b l e z)
+      rw (pairs-first b l, e, eq-eqb (getD b 1 0) 0 z) (q ∙ rw (take-all (length b - 2) (drop 2 b) all))
 
 -- the walk over the parts of a plate
-pub walk-read : (p sheet list bytes : List ℕ) (flags : List Bool) → plateSheetNo p ≡ 0 → sectionsFit p ≡ true → ascending (pointCount p) (insideList p) ≡ true → sheet ≡ sheetOf p → list ≡ insideList p → bytes ≡ outsidePairs p → flags ≡ flagsOf list → pairsFollow (pointsOf sheet) (held flags) bytes ≡ pairsRight (pointsOf (sheetOf p)) (choiceOf (insideList p)) (outsidePairs p)
+pub walk-read : (p sheet list bytes : List ℕ) (flags : List Bool)
+    → plateSheetNo p ≡ 0 → sectionsFit p ≡ true → ascending (pointCount p) (insideList p) ≡ true
+    → sheet ≡ sheetOf p → list ≡ insideList p → bytes ≡ outsidePairs p → flags ≡ flagsOf list
+    → pairsFollow (pointsOf sheet) (held flags) bytes ≡ pairsRight (pointsOf (sheetOf p)) (choiceOf (insideList p)) (outsidePairs p)
 walk-read p sheet list bytes flags z fit up es el eb h =
     let q = none-plate-sheet p .is z in
     let few = start-accepted p (q .1) (q .0) .proper .few in
     rw (es, eb)
-    (follow-same (pointsOf (sheetOf p)) (held flags) (choiceOf (insideList p)) (λ i l. rw el at (flags-hold flags list h i (omega arith))) (outsidePairs p)
+    (follow-same (pointsOf (sheetOf p)) (held flags) (choiceOf (insideList p))
+    (λ i l. rw el at (flags-hold flags list h i (omega arith))) (outsidePairs p)
     ∙ walk-answers p z fit up)
 
 -- WHAT IS HANDED BACK
@@ -195,8 +202,8 @@ module _ (p : List ℕ) where
 
   -- THE ANSWER
 
-  pub plate-accepted : (i : ℕ) → plateNo p ≡ 0 → i ≡ insideCount p → record { refused = false; number = 0; inside = i } ≡ plateOutcomeOf p
+  pub plate-accepted : (i : ℕ) → plateNo p ≡ 0 → i ≡ insideCount p → record { refused = false; no = 0; inside = i } ≡ plateOutcomeOf p
   plate-accepted i e q = rw (e, q)
 
-  pub plate-refused : (k : ℕ) → k ≡ plateNo p → (k ≡ 0 → ⊥) → record { refused = true; number = k; inside = 0 } ≡ plateOutcomeOf p
+  pub plate-refused : (k : ℕ) → k ≡ plateNo p → (k ≡ 0 → ⊥) → record { refused = true; no = k; inside = 0 } ≡ plateOutcomeOf p
   plate-refused k e ne = rw (← e, ne-eqb k 0 ne)

@@ -2,9 +2,9 @@
 -- a leader or an outer label that is drawn wrong there. Assumes nothing.
 use mathlib.Core.Path.{refl}
 use mathlib.Core.List.{List, [], _∷_}
-use Rattle.labeling.specs.Points.{atColumn, inMargin, before, insert, outsideBelow, outside, nextMargin, placedFrom, placed, marginIn, marginColumn}
+use Rattle.labeling.specs.Points.{atColumn, inMargin, before, insert, outsideBelow, outside}
+use Rattle.labeling.specs.Points.{nextMargin, placedFrom, placed, marginIn, marginColumn, among}
 use Rattle.labeling.specs.Marks.{marksB}
-use Rattle.labeling.specs.Margin.{among}
 use Rattle.labeling.specs.Looks.{Look, marked, unmarked, Seen, seen}
 use Rattle.format.specs.Sheet.{twoBytes, pointsOf}
 use Rattle.format.specs.Plate.{choiceOf}
@@ -23,7 +23,8 @@ abbrev pub looks2 : List Look
 looks2 =
     marked 2 (atColumn 11 9) ∷ unmarked 2 (atColumn 12 9) ∷ unmarked 2 (atColumn 11 10) ∷
     marked 0 (atColumn 0 5) ∷ unmarked 0 (atColumn 1 5) ∷ marked 0 (inMargin 0 5) ∷ marked 0 (inMargin 3 5) ∷ unmarked 0 (inMargin 3 6) ∷
-    marked 0 (inMargin 4 5) ∷ marked 0 (inMargin 7 7) ∷ unmarked 0 (inMargin 8 5) ∷ unmarked 0 (inMargin 4 8) ∷ unmarked 0 (inMargin 4 4) ∷ []
+    marked 0 (inMargin 4 5) ∷ marked 0 (inMargin 7 7) ∷ unmarked 0 (inMargin 8 5)
+    ∷ unmarked 0 (inMargin 4 8) ∷ unmarked 0 (inMargin 4 4) ∷ []
 
 -- P8, labels 4 by 3, nothing inside: (0,9) in margin column 1, (2,7) in margin column 2.
 abbrev pub looks8 : List Look

@@ -6,25 +6,25 @@ use mathlib.Core.List.{List, [], _∷_, _++_}
 use Prim.Native.Nat.{ℕ}
 use lib.Dec.{T, eqb}
 use borrow.Author.Tests.{eqb-true}
-use Rattle.labeling.specs.Points.{Points, Choice, before, insert, outsideBelow, outside, nextMargin, placedFrom, placed}
+use Rattle.labeling.specs.Points.{Points, Choice, before, insert, outsideBelow, outside, nextMargin, placedFrom, placed, among}
 use Rattle.labeling.specs.Marks.{Valid}
 use Rattle.labeling.specs.Conflicts.{conflictB, validB, every}
-use Rattle.labeling.specs.Tests.{not-both, and-left, and-right}
+use Rattle.labeling.specs.Decide.{not-both, and-left, and-right}
 use Rattle.labeling.specs.Pixels.{dec-valid}
-use Rattle.labeling.specs.Margin.{among}
 use Rattle.labeling.specs.Best.{weightBelow, weight, oneEach, OnlyBest, put}
 use Rattle.labeling.specs.Only.{everyChoice, agreeB, behindB, onlyBestB, onlyBestB-is}
 use Rattle.format.specs.Sheet.{twoBytes, pointsOf, unlikeEarlier, pointNo, pointsNo, questionsNo, sheetNo, plateSheetNo}
 use Rattle.format.specs.Accepted.{Accepted, accepted}
 use Rattle.format.specs.Plate.{choiceOf, insideBelow, insideSection, pairs, outsideSection, plateOf}
 use Rattle.format.specs.Bytes.{sameBytes, dec-bytes}
+use Rattle.format.specs.Ascending.{ascending}
 use Rattle.clash.specs.declared.ClashKind.{ClashKind}
 use Rattle.clash.specs.declared.ClashKind.the-variants.{Labels, LabelAndLeader}
 use Rattle.clash.specs.declared.Clash.{Clash}
 use Rattle.clash.specs.declared.Clash.the-variants.{None, Between}
 use Rattle.clash.specs.FirstClash.{pairClash, firstOf, clashOf, firstClash}
 use Rattle.clash.specs.ClashPixels.{Named, first-clash-right}
-use Rattle.plate_reader.specs.PlateQuestions.{sheetOf, insideList, outsidePairs, sectionsFit, ascending, pairsRight, sectionsNo, plateNo}
+use Rattle.plate_reader.specs.PlateQuestions.{sheetOf, insideList, outsidePairs, sectionsFit, pairsRight, sectionsNo, plateNo}
 
 -- What a case says of its choice; of a clash, the two positions and its kind.
 pub data Expected : Type 0 where
@@ -79,17 +79,32 @@ cases =
     -- P4: "(2,3) and (5,4): the second alone"
     record { sheet = sheet 4 2 2 (at 1 2 3 (at 2 5 4 [])); inside = 1 ∷ []; expected = onlyBest; added = 1 ∷ 1 ∷ 1 ∷ 0 ∷ 0 ∷ [] } ∷
     -- P4's two points both inside
-    record { sheet = sheet 4 2 2 (at 1 2 3 (at 2 5 4 [])); inside = 0 ∷ 1 ∷ []; expected = clashes 0 1 Labels; added = 2 ∷ 0 ∷ 1 ∷ 0 ∷ [] } ∷
+    record {
+      sheet = sheet 4 2 2 (at 1 2 3 (at 2 5 4 []));
+      inside = 0 ∷ 1 ∷ [];
+      expected = clashes 0 1 Labels;
+      added = 2 ∷ 0 ∷ 1 ∷ 0 ∷ [];
+    } ∷
     -- P5: "(4,3) inside and (3,4) outside: valid"
     record { sheet = sheet 4 2 2 (at 1 4 3 (at 2 3 4 [])); inside = 0 ∷ []; expected = valid; added = 1 ∷ 0 ∷ 1 ∷ 1 ∷ 0 ∷ [] } ∷
     -- P6: "the second at (4,4): a clash"
-    record { sheet = sheet 4 2 2 (at 1 4 3 (at 2 4 4 [])); inside = 0 ∷ []; expected = clashes 0 1 LabelAndLeader; added = 1 ∷ 0 ∷ 1 ∷ 1 ∷ 0 ∷ [] } ∷
+    record {
+      sheet = sheet 4 2 2 (at 1 4 3 (at 2 4 4 []));
+      inside = 0 ∷ [];
+      expected = clashes 0 1 LabelAndLeader;
+      added = 1 ∷ 0 ∷ 1 ∷ 1 ∷ 0 ∷ [];
+    } ∷
     -- P7: "(2,3) and (2,5), label 4 by 2: both inside"
     record { sheet = sheet 4 2 2 (at 1 2 3 (at 2 2 5 [])); inside = 0 ∷ 1 ∷ []; expected = onlyBest; added = 2 ∷ 0 ∷ 1 ∷ 0 ∷ [] } ∷
     -- P8: "h = 3, outside rows 10, 9, 7: columns 0, 1, 2"
     record { sheet = sheet8; inside = []; expected = valid; added = 0 ∷ 3 ∷ 0 ∷ 0 ∷ 1 ∷ 1 ∷ 2 ∷ 2 ∷ [] } ∷
     -- P9: "rows 10, 9, 6: columns 0, 1, 0"
-    record { sheet = sheet 4 3 3 (at 1 5 10 (at 2 0 9 (at 3 2 6 []))); inside = []; expected = valid; added = 0 ∷ 3 ∷ 0 ∷ 0 ∷ 1 ∷ 1 ∷ 2 ∷ 0 ∷ [] } ∷
+    record {
+      sheet = sheet 4 3 3 (at 1 5 10 (at 2 0 9 (at 3 2 6 [])));
+      inside = [];
+      expected = valid;
+      added = 0 ∷ 3 ∷ 0 ∷ 0 ∷ 1 ∷ 1 ∷ 2 ∷ 0 ∷ [];
+    } ∷
     -- P10: "n = 0: the plate adds 00 00"
     record { sheet = sheet 4 2 0 []; inside = []; expected = onlyBest; added = 0 ∷ 0 ∷ [] } ∷ []
 
@@ -137,7 +152,9 @@ abbrev rightB : Case → Bool
 rightB c =
     let s = c .sheet in
     let S = choiceOf (c .inside) in
-    eqb (sheetNo s) 0 && (saysB (c .expected) (pointsOf s) S && (sameBytes (plateOf s S) (s ++ c .added) && eqb (plateNo (s ++ c .added)) (readNo (c .expected))))
+    eqb (sheetNo s) 0
+    && (saysB (c .expected) (pointsOf s) S
+    && (sameBytes (plateOf s S) (s ++ c .added) && eqb (plateNo (s ++ c .added)) (readNo (c .expected))))
 
 abbrev eachB : List Case → Bool
 eachB [] = true
@@ -183,7 +200,10 @@ each (c ∷ cs) e = (right c (and-left _ _ e), each cs (and-right (rightB c) _ e
 
 -- the computation
 all-pass : T (eachB cases)
-unfolding twoBytes unlikeEarlier pointNo pointsNo questionsNo sheetNo plateSheetNo insideBelow insideSection pairs outsideSection plateOf among before insert outsideBelow outside nextMargin placedFrom placed conflictB validB every weightBelow weight put everyChoice agreeB behindB onlyBestB pairClash firstOf clashOf firstClash sheetOf insideList outsidePairs sectionsFit ascending pairsRight sectionsNo plateNo
+unfolding twoBytes unlikeEarlier pointNo pointsNo questionsNo sheetNo plateSheetNo insideBelow insideSection
+    pairs outsideSection plateOf among before insert outsideBelow outside nextMargin placedFrom placed conflictB
+    validB every weightBelow weight put everyChoice agreeB behindB onlyBestB pairClash firstOf clashOf
+    firstClash sheetOf insideList outsidePairs sectionsFit ascending pairsRight sectionsNo plateNo
 all-pass = tt
 
 T-is : (b : Bool) → T b → b ≡ true

@@ -18,10 +18,12 @@ use Rattle.format.specs.Accepted.{Proper, Accepted, accepted, none-sheet}
 use Rattle.format.specs.Bytes.{dec-bytes}
 use Rattle.format.specs.Plate.{choiceOf, insideBelow, insideSection, pairs, outsideSection, plateOf}
 use Rattle.format.specs.PlateLength.{inside-length, inside-outside, plate-length}
+use Rattle.format.specs.InsideList.{choice-of-list, inside-ascending}
 use Rattle.clash.specs.ClashPixels.{first-clash-right}
-use Rattle.plate_reader.specs.PlateQuestions.{sheetOf, insideCount, insideList, outsideCount, outsidePairs, pairsRight, plateNo, handedBack}
-use Rattle.plate_reader.specs.InsideList.{choice-of-list, inside-ascending}
-use Rattle.plate_reader.specs.PlateSections.{Fitting, Asked, none-plate, proper-same, start-same, start-accepted, sections, inside-counted, inside-read, outside-counted, Parts, read-back}
+use Rattle.plate_reader.specs.PlateQuestions.{sheetOf, insideCount, insideList, outsideCount}
+use Rattle.plate_reader.specs.PlateQuestions.{outsidePairs, pairsRight, plateNo, handedBack}
+use Rattle.plate_reader.specs.PlateSections.{Fitting, Asked, none-plate, proper-same, start-same, start-accepted}
+use Rattle.plate_reader.specs.PlateSections.{sections, inside-counted, inside-read, outside-counted, Parts, read-back}
 
 -- The bytes p are the plate of an accepted sheet and a valid choice of it.
 pub record PlateOfChoice (p : List ℕ) : Type 0 where
@@ -64,7 +66,8 @@ module _ (p : List ℕ) (a : Asked p) where
 -- A PLATE IS ACCEPTED, AND READ BACK
 
 module _ (s : List ℕ) (S : Choice) (a : Accepted s) where
-  pub parts : Parts (plateOf s S) s (insideBelow S (pointCount s)) (length (outside (pointsOf s) S)) (pairs (placed (pointsOf s) (outside (pointsOf s) S)))
+  pub parts : Parts (plateOf s S) s (insideBelow S (pointCount s)) (length (outside (pointsOf s) S))
+      (pairs (placed (pointsOf s) (outside (pointsOf s) S)))
   unfolding plateOf insideSection outsideSection
   parts = read-back _ _ _ _ _ (a .long) refl
 
@@ -87,12 +90,16 @@ module _ (s : List ℕ) (S : Choice) (a : Accepted s) where
   plate-proper : Proper (plateOf s S)
   plate-proper =
       let n = parts .points in
-      proper-same s (plateOf s S) (λ k l. ap (λ x. getD x k 0) (sym (parts .sheet)) ∙ start-same (plateOf s S) reaches k (omega arith)) (a .proper)
+      proper-same s (plateOf s S)
+      (λ k l. ap (λ x. getD x k 0) (sym (parts .sheet)) ∙ start-same (plateOf s S) reaches k (omega arith)) (a .proper)
 
-  plate-outside : pairsRight (pointsOf s) (choiceOf (insideBelow S (pointCount s))) (pairs (placed (pointsOf s) (outside (pointsOf s) S))) ≡ true
+  plate-outside :
+      pairsRight (pointsOf s) (choiceOf (insideBelow S (pointCount s))) (pairs (placed (pointsOf s) (outside (pointsOf s) S))) ≡ true
   unfolding pairsRight outside
   plate-outside =
-      dec-bytes _ _ .of (ap (λ l. pairs (placed (pointsOf s) l)) (sym (outside-agree (pointsOf s) (choiceOf (insideBelow S (pointCount s))) S (pointCount s) (read-agree .at))))
+      dec-bytes _ _ .of
+      (ap (λ l. pairs (placed (pointsOf s) l))
+      (sym (outside-agree (pointsOf s) (choiceOf (insideBelow S (pointCount s))) S (pointCount s) (read-agree .at))))
 
   plate-asked : Valid (pointsOf s) S → Asked (plateOf s S)
   plate-asked v =
@@ -103,11 +110,14 @@ module _ (s : List ℕ) (S : Choice) (a : Accepted s) where
         fits = fitting;
         inside = rw (parts .points, parts .inside) (inside-ascending S (pointCount s) (pointCount s) (omega arith));
         outside = rw (parts .sheet, parts .inside, parts .outside) plate-outside;
-        apart = rw (parts .sheet, parts .inside) (first-clash-right s R a .none .1 (valid-agree (pointsOf s) S R (agree-sym (pointsOf s) R S read-agree) v));
+        apart =
+            rw (parts .sheet, parts .inside)
+            (first-clash-right s R a .none .1 (valid-agree (pointsOf s) S R (agree-sym (pointsOf s) R S read-agree) v));
       }
 
 -- A plate of an accepted sheet has just one sheet and one choice.
-pub plate-once : (s t : List ℕ) (S R : Choice) → sheetNo s ≡ 0 → sheetNo t ≡ 0 → plateOf s S ≡ plateOf t R → (s ≡ t) × Agree (pointsOf s) S R
+pub plate-once : (s t : List ℕ) (S R : Choice) → sheetNo s ≡ 0 → sheetNo t ≡ 0 → plateOf s S ≡ plateOf t R
+    → (s ≡ t) × Agree (pointsOf s) S R
 plate-once s t S R a b e =
     let x = parts s S (accepted s a) in
     let y = parts t R (accepted t b) in
@@ -133,7 +143,8 @@ demand-two-reader p = record {
   accepts = (λ e. is-plate p (none-plate p .is e), no-no);
   one-sheet = λ x y. once x y .0;
   one-choice = λ x y. once x y .1;
-  inside = λ x. rw (eq-eqb (plateNo p) 0 (no-no x)) (ap insideList (x .plate) ∙ parts (x .sheet) (x .choice) (accepted (x .sheet) (x .accepted)) .inside);
+  inside = λ x. rw (eq-eqb (plateNo p) 0 (no-no x))
+      (ap insideList (x .plate) ∙ parts (x .sheet) (x .choice) (accepted (x .sheet) (x .accepted)) .inside);
 }
   where
     no-no : PlateOfChoice p → plateNo p ≡ 0

@@ -1,10 +1,14 @@
+-- WHAT A READER MUST BELIEVE: a plate's sections, its questions 41 to 44, what is handed back, and what an answer says.
 pub mod PlateQuestions
-pub mod OutsideWalk
-pub mod InsideList
-pub mod PlateSections
-pub mod PlateWalk
+pub mod Stretch
 pub mod PlateAnswers
+-- THEOREMS: demand 2, the reader's half; what the questions ask, as facts.
 pub mod DemandTwoReader
+pub mod PlateSections
+-- Worked cases, each file a table and its theorem: P1 to P10, single pixels, and sheets that are refused.
 pub mod Cases
 pub mod CasePixels
 pub mod Refusals
+-- Bookkeeping for proofs: the walk by which the code answers 43.
+pub mod OutsideWalk
+pub mod PlateWalk

@@ -8,9 +8,9 @@ use Prim.Native.Nat.{ℕ, suc, _*_, _≤_, _<_}
 use lib.Dec.{ltb, eqb}
 use lib.ListN.{length}
 use native.Mathlib.Omega.{arith}
-use Rattle.labeling.specs.Points.{Points, Choice, Distinct, before, outside, nextMargin, placedFrom, placed}
-use Rattle.labeling.specs.Tests.{not-both, decide, same, Decides, dec-lt, dec-eq, dec-and, and-left, and-right, and-both}
-use Rattle.labeling.specs.Margin.{among, among-head, among-tail, among-rest, among-none, outside-lists}
+use Rattle.labeling.specs.Points.{Points, Choice, Distinct, before, outside, nextMargin, placedFrom, placed, among}
+use Rattle.labeling.specs.Decide.{not-both, decide, same, Decides, dec-lt, dec-eq, dec-and, and-left, and-right, and-both}
+use Rattle.labeling.specs.Margin.{among-head, among-tail, among-rest, among-none, outside-lists}
 use Rattle.labeling.specs.Order.{Before, dec-before, before-trans, before-asym, First, Ordered, outside-is, outside-ordered}
 use Rattle.format.specs.Bytes.{dec-bytes}
 use Rattle.format.specs.Plate.{pairs}
@@ -65,7 +65,8 @@ within-shorter P (i ∷ l) [] o q w = absurd (among-none i (w i (among-head i i 
 within-shorter P (i ∷ l) (j ∷ k) o q w =
     same i j
     (λ e. let ih : length l ≤ length k = within-shorter P l k (o .1) (q .1) (within-rest P i j l k (o .0) w e) in omega arith)
-    (λ ne. let ih : suc (length l) ≤ length k = within-shorter P (i ∷ l) k o (q .1) (within-later P i j l k (o .0) (q .0) w ne) in omega arith)
+    (λ ne.
+    let ih : suc (length l) ≤ length k = within-shorter P (i ∷ l) k o (q .1) (within-later P i j l k (o .0) (q .0) w ne) in omega arith)
 
 -- as many members as there are: the same list
 within-all : (P : Points) (l k : List ℕ) → Ordered P l → Ordered P k → Within l k → length l ≡ length k → l ≡ k
@@ -75,7 +76,9 @@ within-all P (i ∷ l) [] o q w e = absurd (omega arith)
 within-all P (i ∷ l) (j ∷ k) o q w e =
     same i j
     (λ z. let t : l ≡ k = within-all P l k (o .1) (q .1) (within-rest P i j l k (o .0) w z) (omega arith) in λ d. z d ∷ t d)
-    (λ ne. let short : suc (length l) ≤ length k = within-shorter P (i ∷ l) k o (q .1) (within-later P i j l k (o .0) (q .0) w ne) in absurd (omega arith))
+    (λ ne.
+    let short : suc (length l) ≤ length k = within-shorter P (i ∷ l) k o (q .1) (within-later P i j l k (o .0) (q .0) w ne) in
+    absurd (omega arith))
 
 -- WHAT THE WALK SAYS
 
@@ -95,7 +98,12 @@ record After (P : Points) (S : Choice) (j k : ℕ) (b : List ℕ) : Type 0 where
 
 after-is : (P : Points) (S : Choice) (j k : ℕ) (b : List ℕ) → pairsAfter P S j k b ≡ true → After P S j k b
 unfolding pairsAfter placedFrom pairs
-after-is P S j k [] e = record { positions = []; ordered = (λ x a. absurd (among-none x a), tt); outsiders = λ x a. absurd (among-none x a); is = refl }
+after-is P S j k [] e = record {
+  positions = [];
+  ordered = (λ x a. absurd (among-none x a), tt);
+  outsiders = λ x a. absurd (among-none x a);
+  is = refl;
+}
 after-is P S j k (i ∷ []) e = absurd (not-both e refl)
 after-is P S j k (i ∷ m ∷ b) e =
     let f = and-left (pairFollows P S j k i m) _ e in
@@ -121,7 +129,8 @@ unfolding placedFrom pairs restPairs
 pairs-from P j k [] = refl
 pairs-from P j k (i ∷ l) = refl
 
-after-of : (P : Points) (S : Choice) (j k : ℕ) (l : List ℕ) → Ordered P (j ∷ l) → Outsiders P S l → pairsAfter P S j k (restPairs P j k l) ≡ true
+after-of : (P : Points) (S : Choice) (j k : ℕ) (l : List ℕ) → Ordered P (j ∷ l) → Outsiders P S l
+    → pairsAfter P S j k (restPairs P j k l) ≡ true
 unfolding pairsAfter restPairs
 after-of P S j k [] o out = refl
 after-of P S j k (i ∷ l) o out =
@@ -195,7 +204,9 @@ module _ (P : Points) (S : Choice) (b : List ℕ) (d : Distinct P) (many : lengt
       rw q (follow-of P S (outside P S) outside-in-order outside-outsiders)
 
   pub walk-right : pairsFollow P S b ≡ pairsRight P S b
-  walk-right = decide (pairsRight P S b) (λ e. right-follow e ∙ sym e) (λ e. decide (pairsFollow P S b) (λ f. absurd (not-both (follow-right f) e)) (λ f. f ∙ sym e))
+  walk-right =
+      decide (pairsRight P S b) (λ e. right-follow e ∙ sym e)
+      (λ e. decide (pairsFollow P S b) (λ f. absurd (not-both (follow-right f) e)) (λ f. f ∙ sym e))
 
 -- ONLY POSITIONS BELOW n MATTER to the walk.
 module _ (P : Points) (S R : Choice) (e : (i : ℕ) → i < P .n → S i ≡ R i) where

@@ -1,14 +1,15 @@
 -- A plate's sections over its bytes, and the first no of its questions (document 01, "Sheet and plate as bytes" and "Questions in
 -- their order"). A count past the end of the bytes reads 0, so each is defined on any bytes. Assumes nothing.
-use mathlib.Core.Bool.{Bool, true, cond, not, _&&_}
-use mathlib.Core.List.{List, [], _∷_}
+use mathlib.Core.Bool.{Bool, cond, not, _&&_}
+use mathlib.Core.List.{List, []}
 use Prim.Native.Nat.{ℕ, _+_, _*_}
-use lib.Dec.{ltb, eqb}
+use lib.Dec.{eqb}
 use lib.ListN.{length, getD, take, drop}
 use Rattle.labeling.specs.Points.{Points, Choice, outside, placed}
 use Rattle.format.specs.Sheet.{pointCount, pointsOf, ask, thenNo, plateSheetNo, sheetLength}
 use Rattle.format.specs.Plate.{pairs, choiceOf}
 use Rattle.format.specs.Bytes.{sameBytes}
+use Rattle.format.specs.Ascending.{ascending}
 use Rattle.clash.specs.FirstClash.{isClash, firstClash}
 
 -- THE SECTIONS: "the sheet's bytes; then the inside count and one byte for each inside position, ascending; then the outside count
@@ -45,22 +46,13 @@ outsidePairs p = drop (outsideStart p + 1) p
 unfoldable pub sectionsFit : List ℕ → Bool
 sectionsFit p = eqb (length p) (outsideStart p + 1 + 2 * outsideCount p) && eqb (insideCount p + outsideCount p) (pointCount p)
 
--- Position i is below the first of the list, where there is one.
-abbrev pub belowFirst : ℕ → List ℕ → Bool
-belowFirst i [] = true
-belowFirst i (j ∷ l) = ltb i j
-
--- 42: "Is each inside position below n and above the one before it?"
-unfoldable pub ascending : ℕ → List ℕ → Bool
-ascending n [] = true
-ascending n (i ∷ l) = ltb i n && (belowFirst i l && ascending n l)
-
 -- 43: "Are the outside pairs just the other points, in order, with the margin rule's columns?" Of the points P and the choice S, the
 -- bytes are those that the plate of S has there.
 unfoldable pub pairsRight : Points → Choice → List ℕ → Bool
 pairsRight P S bytes = sameBytes bytes (pairs (placed P (outside P S)))
 
--- 41 to 44, where 44 is "Is the choice valid?", answered by the first clash. 0 if there is no no.
+-- 41 to 44, where 42 is "Is each inside position below n and above the one before it?", and 44 is "Is the choice valid?", answered by
+-- the first clash. 0 if there is no no.
 unfoldable pub sectionsNo : List ℕ → ℕ
 sectionsNo p =
     let P = pointsOf (sheetOf p) in

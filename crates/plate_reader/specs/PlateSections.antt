@@ -8,18 +8,20 @@ use lib.ListN.{length, getD, take, drop, length-append, length-drop, take-append
 use lib.Seq.{length-take-le, getD-take, drop-cons, drop-drop, take-at, drop-at, getD-at}
 use native.Mathlib.Omega.{arith}
 use Rattle.labeling.specs.Points.{outside}
-use Rattle.labeling.specs.Tests.{not-both, Decides, dec-eq, dec-and, dec-true}
+use Rattle.labeling.specs.Decide.{not-both, Decides, dec-eq, dec-and, dec-true}
 use Rattle.labeling.specs.Best.{count, weight, weightBelow, oneEach}
 use Rattle.format.specs.Asking.{none-then}
 use Rattle.format.specs.Sheet.{twoBytes, pointCount, pointsOf, sheetLength}
 use Rattle.format.specs.Accepted.{Proper, Accepted, NoneOf, none-ask, none-left, none-plate-sheet}
 use Rattle.format.specs.Plate.{choiceOf, insideBelow}
 use Rattle.format.specs.PlateLength.{inside-length, inside-outside}
+use Rattle.format.specs.Ascending.{ascending}
+use Rattle.format.specs.InsideList.{list-of-choice}
 use Rattle.clash.specs.declared.Clash.{Clash}
 use Rattle.clash.specs.declared.Clash.the-variants.{None, Between}
 use Rattle.clash.specs.FirstClash.{isClash, firstClash}
-use Rattle.plate_reader.specs.PlateQuestions.{sheetOf, insideCount, insideStart, insideList, outsideStart, outsideCount, outsidePairs, sectionsFit, ascending, pairsRight, sectionsNo, plateNo}
-use Rattle.plate_reader.specs.InsideList.{list-of-choice}
+use Rattle.plate_reader.specs.PlateQuestions.{sheetOf, insideCount, insideStart, insideList, outsideStart}
+use Rattle.plate_reader.specs.PlateQuestions.{outsideCount, outsidePairs, sectionsFit, pairsRight, sectionsNo, plateNo}
 
 -- THE QUESTIONS AS FACTS
 
@@ -31,7 +33,8 @@ pub record Fitting (p : List ℕ) : Type 0 where
 pub dec-fit : (p : List ℕ) → Decides (sectionsFit p) (Fitting p)
 unfolding sectionsFit
 dec-fit p =
-    let d = dec-and (dec-eq (length p) (outsideStart p + 1 + 2 * outsideCount p)) (dec-eq (insideCount p + outsideCount p) (pointCount p)) in
+    let d =
+    dec-and (dec-eq (length p) (outsideStart p + 1 + 2 * outsideCount p)) (dec-eq (insideCount p + outsideCount p) (pointCount p)) in
     record { is = λ e. let x = d .is e in record { ends = x .0; together = x .1 }; of = λ f. d .of (f .ends, f .together) }
 
 -- 44: there is no clash.
@@ -48,7 +51,12 @@ pub record Asked (p : List ℕ) : Type 0 where
   pub outside : pairsRight (pointsOf (sheetOf p)) (choiceOf (insideList p)) (outsidePairs p) ≡ true
   pub apart : firstClash (pointsOf (sheetOf p)) (choiceOf (insideList p)) ≡ None
 
-none-sections : (p : List ℕ) → NoneOf (sectionsNo p) (Fitting p × ((ascending (pointCount p) (insideList p) ≡ true) × ((pairsRight (pointsOf (sheetOf p)) (choiceOf (insideList p)) (outsidePairs p) ≡ true) × ((firstClash (pointsOf (sheetOf p)) (choiceOf (insideList p)) ≡ None) × Unit {0}))))
+none-sections : (p : List ℕ)
+    → NoneOf (sectionsNo p)
+    (Fitting p
+    × ((ascending (pointCount p) (insideList p) ≡ true)
+    × ((pairsRight (pointsOf (sheetOf p)) (choiceOf (insideList p)) (outsidePairs p) ≡ true)
+    × ((firstClash (pointsOf (sheetOf p)) (choiceOf (insideList p)) ≡ None) × Unit {0}))))
 unfolding sectionsNo
 none-sections p =
     none-ask 41 (omega arith) (dec-fit p)
@@ -63,7 +71,14 @@ none-plate p =
     let d = none-then (none-plate-sheet p) (none-sections p) in
     record {
       is = λ e. let x = d .is e in
-          record { proper = x .0 .0; long = x .0 .1; fits = x .1 .0; inside = x .1 .1 .0; outside = x .1 .1 .1 .0; apart = x .1 .1 .1 .1 .0 };
+          record {
+            proper = x .0 .0;
+            long = x .0 .1;
+            fits = x .1 .0;
+            inside = x .1 .1 .0;
+            outside = x .1 .1 .1 .0;
+            apart = x .1 .1 .1 .1 .0;
+          };
       of = λ a. d .of ((a .proper, a .long), (a .fits, (a .inside, (a .outside, (a .apart, tt)))));
     }
 
@@ -94,9 +109,15 @@ module _ (s t : List ℕ) (alike : (k : ℕ) → k < sheetLength s → getD s k 
     label-height = rw (two-same 7 (omega arith)) at (p .label-height);
     few = rw count-same at (p .few);
     call-number = λ i l. rw (field-same 10 i (omega arith) l) at (p .call-number i (below-same i l));
-    on-map = λ i l. rw (field-same 12 i (omega arith) l, field-same 14 i (omega arith) l, two-same 1 (omega arith), two-same 3 (omega arith)) at (p .on-map i (below-same i l));
-    calls = λ i j l m e. p .calls i j (below-same i l) (below-same j m) (field-same 10 i (omega arith) l ∙ e ∙ sym (field-same 10 j (omega arith) m));
-    rows = record { apart = λ i j l m e. p .rows .apart i j (below-same i l) (below-same j m) (field-same 14 i (omega arith) l ∙ e ∙ sym (field-same 14 j (omega arith) m)) };
+    on-map = λ i l.
+        rw (field-same 12 i (omega arith) l, field-same 14 i (omega arith) l, two-same 1 (omega arith), two-same 3 (omega arith))
+        at (p .on-map i (below-same i l));
+    calls = λ i j l m e.
+        p .calls i j (below-same i l) (below-same j m) (field-same 10 i (omega arith) l ∙ e ∙ sym (field-same 10 j (omega arith) m));
+    rows = record {
+      apart = λ i j l m e. p .rows .apart i j (below-same i l) (below-same j m)
+          (field-same 14 i (omega arith) l ∙ e ∙ sym (field-same 14 j (omega arith) m));
+    };
   }
 
 -- the sheet's bytes of a plate
@@ -118,12 +139,16 @@ module _ (p : List ℕ) (long : sheetLength p ≤ length p) where
 -- A PLATE IS ITS SECTIONS
 
 -- a list cut before and after one element, and again i elements later
-split : (l : List ℕ) (a b i o c : ℕ) → b ≡ suc a → o ≡ b + i → c ≡ suc o → o < length l → l ≡ take a l ++ (getD l a 0 ∷ take i (drop b l)) ++ (getD l o 0 ∷ drop c l)
+split : (l : List ℕ) (a b i o c : ℕ) → b ≡ suc a → o ≡ b + i → c ≡ suc o → o < length l
+    → l ≡ take a l ++ (getD l a 0 ∷ take i (drop b l)) ++ (getD l o 0 ∷ drop c l)
 split l a b i o c eb eo ec short =
     let first : drop a l ≡ getD l a 0 ∷ drop b l = drop-cons l a 0 (omega arith) ∙ ap (λ n. getD l a 0 ∷ drop n l) (sym eb) in
-    let middle : drop b l ≡ take i (drop b l) ++ drop o l = sym (take-append-drop i (drop b l)) ∙ ap (λ t. take i (drop b l) ++ t) (drop-drop i b l ∙ ap (λ n. drop n l) (sym eo)) in
+    let middle : drop b l ≡ take i (drop b l) ++ drop o l =
+    sym (take-append-drop i (drop b l)) ∙ ap (λ t. take i (drop b l) ++ t) (drop-drop i b l ∙ ap (λ n. drop n l) (sym eo)) in
     let last : drop o l ≡ getD l o 0 ∷ drop c l = drop-cons l o 0 short ∙ ap (λ n. getD l o 0 ∷ drop n l) (sym ec) in
-    sym (take-append-drop a l) ∙ ap (λ t. take a l ++ t) (first ∙ ap (λ t. getD l a 0 ∷ t) (middle ∙ ap (λ t. take i (drop b l) ++ t) last)) ∙ sym (append-assoc (take a l) (getD l a 0 ∷ take i (drop b l)) (getD l o 0 ∷ drop c l))
+    sym (take-append-drop a l)
+    ∙ ap (λ t. take a l ++ t) (first ∙ ap (λ t. getD l a 0 ∷ t) (middle ∙ ap (λ t. take i (drop b l) ++ t) last))
+    ∙ sym (append-assoc (take a l) (getD l a 0 ∷ take i (drop b l)) (getD l o 0 ∷ drop c l))
 
 module _ (p : List ℕ) (f : Fitting p) where
   pub inside-counted : length (insideList p) ≡ insideCount p
@@ -138,7 +163,10 @@ module _ (p : List ℕ) (f : Fitting p) where
 
   pub sections : p ≡ sheetOf p ++ (insideCount p ∷ insideList p) ++ (outsideCount p ∷ outsidePairs p)
   unfolding sheetOf insideList outsidePairs
-  sections = let e = f .ends in split p (sheetLength p) (insideStart p) (insideCount p) (outsideStart p) (outsideStart p + 1) (omega arith) refl (omega arith) (omega arith)
+  sections =
+      let e = f .ends in
+      split p (sheetLength p) (insideStart p) (insideCount p) (outsideStart p) (outsideStart p + 1)
+      (omega arith) refl (omega arith) (omega arith)
 
   module _ (long : sheetLength p ≤ length p) (up : ascending (pointCount p) (insideList p) ≡ true) where
     -- the list of the choice that the inside list stands for
@@ -186,7 +214,9 @@ module _ (p s l : List ℕ) (o : ℕ) (b : List ℕ) (long : length s ≡ sheetL
   inside-list-read : insideList p ≡ l
   unfolding insideList
   inside-list-read =
-      let e : drop (insideStart p) p ≡ l ++ o ∷ b = ap (drop (insideStart p)) (after-sheet ∙ sym (append-assoc s (length l ∷ []) (l ++ o ∷ b))) ∙ drop-at (s ++ length l ∷ []) (l ++ o ∷ b) (insideStart p) (rw length-append (omega (arith, start-read))) in
+      let e : drop (insideStart p) p ≡ l ++ o ∷ b =
+      ap (drop (insideStart p)) (after-sheet ∙ sym (append-assoc s (length l ∷ []) (l ++ o ∷ b)))
+      ∙ drop-at (s ++ length l ∷ []) (l ++ o ∷ b) (insideStart p) (rw length-append (omega (arith, start-read))) in
       ap₂ take inside-count-read e ∙ take-at l (o ∷ b) (length l) refl
 
   outside-start-read : length (s ++ length l ∷ l) ≡ outsideStart p
@@ -197,7 +227,9 @@ module _ (p s l : List ℕ) (o : ℕ) (b : List ℕ) (long : length s ≡ sheetL
 
   outside-pairs-read : outsidePairs p ≡ b
   unfolding outsidePairs
-  outside-pairs-read = ap (drop (outsideStart p + 1)) (is ∙ sym (append-assoc (s ++ length l ∷ l) (o ∷ []) b)) ∙ drop-at (s ++ length l ∷ l ++ o ∷ []) b (outsideStart p + 1) (rw length-append (omega (arith, outside-start-read)))
+  outside-pairs-read =
+      ap (drop (outsideStart p + 1)) (is ∙ sym (append-assoc (s ++ length l ∷ l) (o ∷ []) b))
+      ∙ drop-at (s ++ length l ∷ l ++ o ∷ []) b (outsideStart p + 1) (rw length-append (omega (arith, outside-start-read)))
 
   pub read-back : Parts p s l o b
   read-back = record {

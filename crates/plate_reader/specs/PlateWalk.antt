@@ -7,11 +7,14 @@ use Prim.Native.Nat.{ℕ, _*_}
 use Rattle.format.specs.Sheet.{pointCount, pointsOf, plateSheetNo}
 use Rattle.format.specs.Accepted.{none-plate-sheet}
 use Rattle.format.specs.Plate.{choiceOf}
-use Rattle.plate_reader.specs.PlateQuestions.{sheetOf, insideList, outsidePairs, sectionsFit, ascending, pairsRight}
+use Rattle.format.specs.Ascending.{ascending}
+use Rattle.plate_reader.specs.PlateQuestions.{sheetOf, insideList, outsidePairs, sectionsFit, pairsRight}
 use Rattle.plate_reader.specs.OutsideWalk.{pairsFollow, walk-right}
 use Rattle.plate_reader.specs.PlateSections.{dec-fit, start-accepted, outside-bytes, outside-counted}
 
-pub walk-answers : (p : List ℕ) → plateSheetNo p ≡ 0 → sectionsFit p ≡ true → ascending (pointCount p) (insideList p) ≡ true → pairsFollow (pointsOf (sheetOf p)) (choiceOf (insideList p)) (outsidePairs p) ≡ pairsRight (pointsOf (sheetOf p)) (choiceOf (insideList p)) (outsidePairs p)
+pub walk-answers : (p : List ℕ) → plateSheetNo p ≡ 0 → sectionsFit p ≡ true → ascending (pointCount p) (insideList p) ≡ true
+    → pairsFollow (pointsOf (sheetOf p)) (choiceOf (insideList p)) (outsidePairs p)
+    ≡ pairsRight (pointsOf (sheetOf p)) (choiceOf (insideList p)) (outsidePairs p)
 walk-answers p sheet fit up =
     let q = none-plate-sheet p .is sheet in
     let f = dec-fit p .is fit in

@@ -7,17 +7,17 @@ use Prim.Native.Nat.{ℕ, zero, suc}
 use lib.Dec.{eqb}
 use borrow.Author.Tests.{eqb-true}
 use Rattle.labeling.specs.Conflicts.{every}
-use Rattle.labeling.specs.Tests.{and-left, and-right}
+use Rattle.labeling.specs.Decide.{and-left, and-right}
 use Rattle.format.specs.Sheet.{twoBytes, unlikeEarlier, pointNo, pointsNo, questionsNo, sheetNo, plateSheetNo}
 use Rattle.plate_reader.specs.Cases.{at, sheet, sheet1}
 
 -- A sheet and the number of its first no, 0 for none.
 pub record Row : Type 0 where
   pub bytes : List ℕ
-  pub number : ℕ
+  pub no : ℕ
 
 abbrev pub row : ℕ → List ℕ → Row
-row k s = record { bytes = s; number = k }
+row k s = record { bytes = s; no = k }
 
 -- m points: call numbers m down to 1, column 0, rows m - 1 down to 0.
 abbrev pub points : ℕ → List ℕ
@@ -50,7 +50,8 @@ table =
     -- "Is the length 10 + 6n? 16": a byte more; a byte less; it is asked before 17
     row 16 (sheet 4 2 0 (0 ∷ [])) ∷ row 16 (sheet 4 2 1 (1 ∷ 0 ∷ 2 ∷ 0 ∷ 3 ∷ [])) ∷ row 16 (sheet 4 2 1 (at 0 2 3 (0 ∷ []))) ∷
     -- "is the call number allowed? 17": 0; 9,999 is; 10,000; it is asked before 18
-    row 17 (sheet 4 2 1 (at 0 2 3 [])) ∷ row 0 (sheet 4 2 1 (15 ∷ 39 ∷ 2 ∷ 0 ∷ 3 ∷ 0 ∷ [])) ∷ row 17 (sheet 4 2 1 (16 ∷ 39 ∷ 2 ∷ 0 ∷ 3 ∷ 0 ∷ [])) ∷
+    row 17 (sheet 4 2 1 (at 0 2 3 [])) ∷ row 0 (sheet 4 2 1 (15 ∷ 39 ∷ 2 ∷ 0 ∷ 3 ∷ 0 ∷ [])) ∷
+    row 17 (sheet 4 2 1 (16 ∷ 39 ∷ 2 ∷ 0 ∷ 3 ∷ 0 ∷ [])) ∷
     row 17 (sheet 4 2 1 (at 0 20 12 [])) ∷
     -- "Are column and row on the map? 18": (19, 11) is; column 20; row 12; it is asked before 19
     row 0 (sheet 4 2 1 (at 1 19 11 [])) ∷ row 18 (sheet 4 2 1 (at 1 20 3 [])) ∷ row 18 (sheet 4 2 1 (at 1 2 12 [])) ∷
@@ -65,15 +66,15 @@ table =
 -- Every sheet has the number of its row.
 abbrev pub Each : List Row → Type 0
 Each [] = Unit {0}
-Each (r ∷ rs) = (sheetNo (r .bytes) ≡ r .number) × Each rs
+Each (r ∷ rs) = (sheetNo (r .bytes) ≡ r .no) × Each rs
 
 abbrev eachB : List Row → Bool
 eachB [] = true
-eachB (r ∷ rs) = eqb (sheetNo (r .bytes)) (r .number) && eachB rs
+eachB (r ∷ rs) = eqb (sheetNo (r .bytes)) (r .no) && eachB rs
 
 each : (rs : List Row) → eachB rs ≡ true → Each rs
 each [] e = tt
-each (r ∷ rs) e = (eqb-true _ _ (and-left _ _ e), each rs (and-right (eqb (sheetNo (r .bytes)) (r .number)) _ e))
+each (r ∷ rs) e = (eqb-true _ _ (and-left _ _ e), each rs (and-right (eqb (sheetNo (r .bytes)) (r .no)) _ e))
 
 -- THE TABLE'S THEOREM
 pub all-refused : Each table

@@ -15,8 +15,11 @@ ghost use Prim.Native.Nat.{_+_, _≤_, _<_};
 ghost use lib.ListN.{length, getD, drop};
 ghost use Rattle.labeling.specs.Points.{before};
 ghost use Rattle.format.specs.Sheet.{pointsOf, plateSheetNo, sheetLength};
+ghost use Rattle.format.specs.Ascending.{belowNext, ascending};
 ghost use Rattle.clash.specs.ChoiceFlags.{held};
-ghost use Rattle.plate_reader.specs.PlateQuestions.{sheetOf, insideCount, insideStart, insideList, outsideStart, outsidePairs, sectionsFit, belowFirst, ascending, sectionsNo, plateNo, handedBack, handedBackAt};
+ghost use Rattle.plate_reader.specs.PlateQuestions.{sheetOf, insideCount, insideStart, insideList, outsideStart, outsidePairs};
+ghost use Rattle.plate_reader.specs.PlateQuestions.{sectionsFit, sectionsNo, plateNo, handedBack, handedBackAt};
+ghost use Rattle.plate_reader.specs.Stretch.{Stretch};
 ghost use Rattle.plate_reader.specs.OutsideWalk.{outsidePoint, pairFollows, pairsAfter, pairsFollow};
 ghost use Rattle.plate_reader.specs.PlateAnswers.{plateOutcome, plateOutcomeOf};
 
@@ -54,7 +57,7 @@ fn sections_fit(plate: &[u8]) -> bool
 }
 
 // The sheet's bytes.
-fn sheet_part(plate: &[u8]) -> &[u8]
+fn sheet_of(plate: &[u8]) -> &[u8]
     requires { ⌜ sheetLength (now plate) ≤ length (now plate) ⌝ }
     ensures { λ r. ⌜ now r ≡ sheetOf (now (plate .entry)) ⌝ }
 {
@@ -63,9 +66,9 @@ fn sheet_part(plate: &[u8]) -> &[u8]
 }
 
 // The position bytes of the inside section.
-fn inside_part(plate: &[u8]) -> &[u8]
+fn inside_positions(plate: &[u8]) -> &[u8]
     requires { ⌜ sectionsFit (now plate) ≡ true ⌝ }
-    ensures { λ r. ⌜ (now r ≡ insideList (now (plate .entry))) × (r .ptr .0 ≡ plate .entry .ptr .0) × (r .ptr .1 ≡ plate .entry .ptr .1 + insideStart (now (plate .entry))) ⌝ }
+    ensures { λ r. ⌜ Stretch r (plate .entry) (insideStart (now (plate .entry))) (insideList (now (plate .entry))) ⌝ }
 {
     let start = sheet_length(plate) + 1;
     let end = outside_start(plate);
@@ -73,7 +76,7 @@ fn inside_part(plate: &[u8]) -> &[u8]
 }
 
 // The bytes after the outside count.
-fn outside_part(plate: &[u8]) -> &[u8]
+fn outside_pairs(plate: &[u8]) -> &[u8]
     requires { ⌜ sectionsFit (now plate) ≡ true ⌝ }
     ensures { λ r. ⌜ now r ≡ outsidePairs (now (plate .entry)) ⌝ }
 {
@@ -84,7 +87,7 @@ fn outside_part(plate: &[u8]) -> &[u8]
 // The position at k is below the next, where there is one.
 fn below_next(list: &[u8], k: usize) -> bool
     requires { ⌜ k < length (now list) ⌝ }
-    ensures { λ r. ⌜ r ≡ belowFirst (getD (now (list .entry)) k 0) (drop (k + 1) (now (list .entry))) ⌝ }
+    ensures { λ r. ⌜ r ≡ belowNext (getD (now (list .entry)) k 0) (drop (k + 1) (now (list .entry))) ⌝ }
 {
     let next = k + 1;
     if next < list.len() {
@@ -205,13 +208,13 @@ fn sections_no(plate: &[u8]) -> u8
     if !sections_fit(plate) {
         return 41;
     }
-    let list = inside_part(plate);
+    let list = inside_positions(plate);
     if !ascends(list, point_count(plate)) {
         return 42;
     }
-    let sheet = sheet_part(plate);
+    let sheet = sheet_of(plate);
     let inside = choice_of(list);
-    if !pairs_follow(sheet, &inside, outside_part(plate)) {
+    if !pairs_follow(sheet, &inside, outside_pairs(plate)) {
         return 43;
     }
     if is_clash(first_clash(sheet, list)) {
@@ -245,10 +248,10 @@ pub fn read_plate(plate: &[u8]) -> PlateAnswer
 // The inside list of an accepted plate, as that part of the plate: the position bytes without their count byte. Of a refused plate its
 // empty start.
 pub fn inside_list(plate: &[u8]) -> &[u8]
-    ensures { λ r. ⌜ (now r ≡ handedBack (now (plate .entry))) × (r .ptr .0 ≡ plate .entry .ptr .0) × (r .ptr .1 ≡ plate .entry .ptr .1 + handedBackAt (now (plate .entry))) ⌝ }
+    ensures { λ r. ⌜ Stretch r (plate .entry) (handedBackAt (now (plate .entry))) (handedBack (now (plate .entry))) ⌝ }
 {
     if plate_no(plate) != 0 {
         return &plate[0..0];
     }
-    inside_part(plate)
+    inside_positions(plate)
 }

@@ -4,7 +4,7 @@ use mathlib.Core.Path.{_≡_, refl, sym, _∙_}
 use Prim.Native.Nat.{_-_, _≤_}
 use lib.ListN.{length, drop}
 use Rattle.format.specs.Asking.{off, on}
-use Rattle.plate_reader.specs.PlateQuestions.{ascending}
+use Rattle.format.specs.Ascending.{ascending}
 use Rattle.plate_reader.proofs.Laws.{up-high, up-next, up-more, up-end}
 use Rattle.plate_reader.proofs.ascends.Statement.{statement}
 use Rattle.plate_reader.proofs.ascends.Tie as tie
@@ -28,7 +28,10 @@ below-next-requires : tie.Need-below-next-requires Inv-loop μ-loop
 below-next-requires c κs = search needs
 
 returns-2 : tie.Need-returns-2 Inv-loop μ-loop
-returns-2 c = sym (c .before .before .before .before .before .loop .inv .1 ∙ up-next _ _ _ (c .before .before .before .before .loop-test .taken) (c .before .before .if1 .left) (off _ _ (c .before .below-next .ensures) (c .if2 .taken)))
+returns-2 c =
+    sym (c .before .before .before .before .before .loop .inv .1
+    ∙ up-next _ _ _ (c .before .before .before .before .loop-test .taken) (c .before .before .if1 .left)
+    (off _ _ (c .before .below-next .ensures) (c .if2 .taken)))
 
 add-k : tie.Need-add-k Inv-loop μ-loop
 add-k c = search needs
@@ -37,7 +40,12 @@ loop-less : tie.Need-loop-less Inv-loop μ-loop
 loop-less c = search needs
 
 loop-again : tie.Need-loop-again Inv-loop μ-loop
-loop-again c = (search needs, c .before .before .before .before .before .loop .inv .1 ∙ up-more _ _ _ (c .before .before .before .before .loop-test .taken) (c .before .before .if1 .left) (on _ _ (c .before .below-next .ensures) (c .if2 .left)))
+loop-again c = (
+  search needs,
+  c .before .before .before .before .before .loop .inv .1
+      ∙ up-more _ _ _ (c .before .before .before .before .loop-test .taken) (c .before .before .if1 .left)
+      (on _ _ (c .before .below-next .ensures) (c .if2 .left)),
+)
 
 returns-3 : tie.Need-returns-3 Inv-loop μ-loop
 returns-3 c = sym (c .before .loop .inv .1 ∙ up-end _ _ _ (c .loop-test .left))

@@ -23,17 +23,17 @@ returns : tie.Need-returns
 returns c =
     let p = c .before .before .before .before .args .plate .now in
     let ne : plateNo p ≡ 0 → ⊥ = λ z. omega (arith, c .before .before .plate-no .ensures) in
-    (refused-list p ne, refl, omega (arith, refused-at p ne))
+    record { holds = refused-list p ne; memory = refl; place = omega (arith, refused-at p ne) }
 
-inside-part-requires : tie.Need-inside-part-requires
-inside-part-requires c κs = accepted-fits _ (sym (c .before .plate-no .ensures) ∙ c .if1 .left)
+inside-positions-requires : tie.Need-inside-positions-requires
+inside-positions-requires c κs = accepted-fits _ (sym (c .before .plate-no .ensures) ∙ c .if1 .left)
 
 returns-2 : tie.Need-returns-2
 returns-2 c =
     let p = c .before .before .before .before .args .plate .now in
     let e : plateNo p ≡ 0 = sym (c .before .before .plate-no .ensures) ∙ c .before .if1 .left in
-    let part = c .inside-part .ensures in
-    (part .0 ∙ accepted-list p e, part .1, omega (arith, part .2, accepted-at p e))
+    let part = c .inside-positions .ensures in
+    record { holds = part .holds ∙ accepted-list p e; memory = part .memory; place = omega (arith, part .place, accepted-at p e) }
 
 pub inside-list-spec : {M : Type 1} → statement M
 inside-list-spec =
@@ -44,5 +44,5 @@ inside-list-spec =
     part-result-start
     part-result-end
     returns
-    inside-part-requires
+    inside-positions-requires
     returns-2)

@@ -13,7 +13,9 @@ use Rattle.plate_reader.proofs.pairs_after.Tie as tie
 
 abbrev Inv-loop : tie.InvT-loop
 Inv-loop sheet inside position margin pairs last₀ last-margin₀ at₀ last last-margin at =
-    (at ≤ length pairs) × (pairsAfter (pointsOf sheet) (held inside) position margin pairs ≡ pairsAfter (pointsOf sheet) (held inside) last last-margin (drop at pairs))
+    (at ≤ length pairs)
+    × (pairsAfter (pointsOf sheet) (held inside) position margin pairs
+    ≡ pairsAfter (pointsOf sheet) (held inside) last last-margin (drop at pairs))
 
 abbrev μ-loop : tie.MeasureT-loop
 μ-loop sheet inside position margin pairs last₀ last-margin₀ at₀ last last-margin at = length pairs - at
@@ -37,7 +39,10 @@ pair-follows-requires : tie.Need-pair-follows-requires Inv-loop μ-loop
 pair-follows-requires c κs = search needs
 
 returns : tie.Need-returns Inv-loop μ-loop
-returns c = sym (c .before .before .before .before .before .loop .inv .1 ∙ after-no _ _ _ _ _ _ (c .before .before .before .before .loop-test .taken) (off _ _ (c .before .pair-follows .ensures) (c .if1 .taken)))
+returns c =
+    sym (c .before .before .before .before .before .loop .inv .1
+    ∙ after-no _ _ _ _ _ _ (c .before .before .before .before .loop-test .taken)
+    (off _ _ (c .before .pair-follows .ensures) (c .if1 .taken)))
 
 add-at : tie.Need-add-at Inv-loop μ-loop
 add-at c = search needs
@@ -46,7 +51,12 @@ loop-less : tie.Need-loop-less Inv-loop μ-loop
 loop-less c = search needs
 
 loop-again : tie.Need-loop-again Inv-loop μ-loop
-loop-again c = (search needs, c .before .before .before .before .before .loop .inv .1 ∙ after-more _ _ _ _ _ _ (c .before .before .before .before .loop-test .taken) (on _ _ (c .before .pair-follows .ensures) (c .if1 .left)))
+loop-again c = (
+  search needs,
+  c .before .before .before .before .before .loop .inv .1
+      ∙ after-more _ _ _ _ _ _ (c .before .before .before .before .loop-test .taken)
+      (on _ _ (c .before .pair-follows .ensures) (c .if1 .left)),
+)
 
 returns-2 : tie.Need-returns-2 Inv-loop μ-loop
 returns-2 c = sym (c .before .loop .inv .1 ∙ after-end _ _ _ _ _ _ (c .loop-test .left) (c .before .loop .inv .0))

@@ -26,12 +26,14 @@ outside-point-requires c κs = search needs
 returns-3 : tie.Need-returns-3
 returns-3 c =
     let a = c .before .before .before .before .before .before .before .before .args in
-    pairs-point (pointsOf (a .sheet .now)) (held (a .inside .now)) (a .pairs .now) (omega arith) (off _ _ (c .before .outside-point .ensures) (c .if3 .taken))
+    pairs-point (pointsOf (a .sheet .now)) (held (a .inside .now)) (a .pairs .now) (omega arith)
+    (off _ _ (c .before .outside-point .ensures) (c .if3 .taken))
 
 returns-4 : tie.Need-returns-4
 returns-4 c =
     let a = c .before .before .before .before .before .before .before .before .before .args in
-    pairs-margin (pointsOf (a .sheet .now)) (held (a .inside .now)) (a .pairs .now) (omega arith) (on _ _ (c .before .before .outside-point .ensures) (c .before .if3 .left)) (λ z. omega (arith, c .if4 .taken))
+    pairs-margin (pointsOf (a .sheet .now)) (held (a .inside .now)) (a .pairs .now) (omega arith)
+    (on _ _ (c .before .before .outside-point .ensures) (c .before .if3 .left)) (λ z. omega (arith, c .if4 .taken))
 
 sub-pairs-after : tie.Need-sub-pairs-after
 sub-pairs-after c = search needs
@@ -48,7 +50,9 @@ pairs-after-requires c κs = search needs
 returns-5 : tie.Need-returns-5
 returns-5 c =
     let a = c .before .before .before .before .before .before .before .before .before .before .before .args in
-    pairs-rest (pointsOf (a .sheet .now)) (held (a .inside .now)) (a .pairs .now) _ (omega arith) (on _ _ (c .before .before .before .before .outside-point .ensures) (c .before .before .before .if3 .left)) (c .before .before .if4 .left) (c .pairs-after .ensures)
+    pairs-rest (pointsOf (a .sheet .now)) (held (a .inside .now)) (a .pairs .now) _ (omega arith)
+    (on _ _ (c .before .before .before .before .outside-point .ensures) (c .before .before .before .if3 .left))
+    (c .before .before .if4 .left) (c .pairs-after .ensures)
 
 pub pairs-follow-spec : {M : Type 1} → statement M
 pairs-follow-spec =

@@ -1,10 +1,10 @@
 -- `plate_reader::plate_no` meets its contract. Assumes nothing.
 use borrow.Author.Needs.{needs}
-use mathlib.Core.Path.{_≡_, sym, ap, _∙_}
+use mathlib.Core.Path.{_≡_, refl, sym, ap, _∙_}
 use lib.Dec.{leb}
 use lib.ListN.{length}
 use Rattle.format.specs.Sheet.{questionsNo, plateSheetNo}
-use Rattle.format.specs.Asking.{then-first, then-later}
+use Rattle.format.specs.Asking.{Rung, first-of, past-list, stops-list}
 use Rattle.plate_reader.specs.PlateQuestions.{plateNo}
 use Rattle.plate_reader.proofs.plate_no.Statement.{statement}
 use Rattle.plate_reader.proofs.plate_no.Tie as tie
@@ -24,14 +24,20 @@ first-no c =
 
 returns : tie.Need-returns
 unfolding plateNo
-returns c = then-first _ _ _ (λ z. c .if1 .taken (first-no (c .before) ∙ z)) (first-no (c .before))
+returns c = stops-list (first-of _) _ _ _ refl (λ z. c .if1 .taken (first-no (c .before) ∙ z)) (first-no (c .before))
 
 sections-no-requires : tie.Need-sections-no-requires
 sections-no-requires c κs = sym (first-no (c .before)) ∙ c .if1 .left
 
+abbrev past-sheet : tie.Else1 → Rung
+unfolding plateNo
+past-sheet c =
+    past-list (first-of (plateNo (c .before .before .before .before .args .plate .now)))
+    _ _ refl (sym (first-no (c .before)) ∙ c .if1 .left)
+
 returns-2 : tie.Need-returns-2
 unfolding plateNo
-returns-2 c = then-later _ _ _ (sym (first-no (c .before .before)) ∙ c .before .if1 .left) (c .sections-no .ensures)
+returns-2 c = c .sections-no .ensures ∙ past-sheet (c .before) .same
 
 pub plate-no-spec : {M : Type 1} → statement M
 plate-no-spec =

@@ -35,7 +35,8 @@ add-if1-2 : tie.Need-add-if1-2
 add-if1-2 c = search needs
 
 counted : (c : tie.After-byte-at) → c .byte-at .result ≡ outsideCount (c .before .before .before .before .args .plate .now)
-counted c = c .byte-at .ensures ∙ ap (λ k. getD (c .before .before .before .before .args .plate .now) k 0) (c .before .outside-start .ensures .0)
+counted c =
+    c .byte-at .ensures ∙ ap (λ k. getD (c .before .before .before .before .args .plate .now) k 0) (c .before .outside-start .ensures .0)
 
 returns : tie.Need-returns
 returns c =

@@ -16,7 +16,8 @@ row-requires-2 c κs = search needs
 returns : tie.Need-returns
 returns c =
     let a = c .before .before .before .before .args in
-    before-lower (pointsOf (a .sheet .now)) (a .i) (a .j) (rw (c .before .before .row .ensures, c .before .row2 .ensures) at (c .if1 .taken))
+    before-lower (pointsOf (a .sheet .now)) (a .i) (a .j)
+    (rw (c .before .before .row .ensures, c .before .row2 .ensures) at (c .if1 .taken))
 
 column-requires : tie.Need-column-requires
 column-requires c κs = search needs
@@ -27,12 +28,18 @@ column-requires-2 c κs = search needs
 returns-2 : tie.Need-returns-2
 returns-2 c =
     let a = c .before .before .before .before .before .before .before .args in
-    ap₂ ltb (c .before .column .ensures) (c .column2 .ensures) ∙ before-column (pointsOf (a .sheet .now)) (a .i) (a .j) (sym (c .before .before .before .before .row2 .ensures) ∙ c .before .before .if2 .taken ∙ c .before .before .before .before .before .row .ensures)
+    ap₂ ltb (c .before .column .ensures) (c .column2 .ensures)
+    ∙ before-column (pointsOf (a .sheet .now)) (a .i) (a .j)
+    (sym (c .before .before .before .before .row2 .ensures)
+    ∙ c .before .before .if2 .taken
+    ∙ c .before .before .before .before .before .row .ensures)
 
 returns-3 : tie.Need-returns-3
 returns-3 c =
     let a = c .before .before .before .before .before .args in
-    before-higher (pointsOf (a .sheet .now)) (a .i) (a .j) (rw (c .before .before .before .row .ensures, c .before .before .row2 .ensures) at (c .before .if1 .left)) (λ z. c .if2 .left (c .before .before .row2 .ensures ∙ z ∙ sym (c .before .before .before .row .ensures)))
+    before-higher (pointsOf (a .sheet .now)) (a .i) (a .j)
+    (rw (c .before .before .before .row .ensures, c .before .before .row2 .ensures) at (c .before .if1 .left))
+    (λ z. c .if2 .left (c .before .before .row2 .ensures ∙ z ∙ sym (c .before .before .before .row .ensures)))
 
 pub stands-before-spec : {M : Type 1} → statement M
 stands-before-spec =

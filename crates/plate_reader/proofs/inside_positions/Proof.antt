@@ -1,4 +1,4 @@
--- `plate_reader::inside_part` meets its contract. Assumes nothing.
+-- `plate_reader::inside_positions` meets its contract. Assumes nothing.
 use borrow.Author.Needs.{needs}
 use mathlib.Core.Path.{_≡_, refl, ap₂}
 use Prim.Native.Nat.{_+_, _-_}
@@ -6,8 +6,8 @@ use lib.ListN.{take, drop}
 use native.Mathlib.Omega.{arith}
 use Rattle.plate_reader.specs.PlateQuestions.{insideCount, insideStart, insideList}
 use Rattle.plate_reader.specs.PlateSections.{dec-fit}
-use Rattle.plate_reader.proofs.inside_part.Statement.{statement}
-use Rattle.plate_reader.proofs.inside_part.Tie as tie
+use Rattle.plate_reader.proofs.inside_positions.Statement.{statement}
+use Rattle.plate_reader.proofs.inside_positions.Tie as tie
 
 sheet-length-requires : tie.Need-sheet-length-requires
 sheet-length-requires c κs = search needs
@@ -33,10 +33,10 @@ returns c =
     let p = c .before .before .before .before .args .plate .now in
     let start : c .before .before .sheet-length .result + 1 ≡ insideStart p = omega arith in
     let size : c .before .outside-start .result - (c .before .before .sheet-length .result + 1) ≡ insideCount p = omega arith in
-    (ap₂ (λ n k. take n (drop k p)) size start, refl, omega arith)
+    record { holds = ap₂ (λ n k. take n (drop k p)) size start; memory = refl; place = omega arith }
 
-pub inside-part-spec : {M : Type 1} → statement M
-inside-part-spec =
+pub inside-positions-spec : {M : Type 1} → statement M
+inside-positions-spec =
     tie.close
     (tie.spec
     sheet-length-requires

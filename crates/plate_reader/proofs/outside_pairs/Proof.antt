@@ -1,4 +1,4 @@
--- `plate_reader::outside_part` meets its contract. Assumes nothing.
+-- `plate_reader::outside_pairs` meets its contract. Assumes nothing.
 use borrow.Author.Needs.{needs}
 use mathlib.Core.Path.{ap, _∙_}
 use Prim.Native.Nat.{_+_, _-_}
@@ -7,8 +7,8 @@ use lib.Seq.{take-all}
 use native.Mathlib.Omega.{arith}
 use Rattle.plate_reader.specs.PlateQuestions.{outsidePairs}
 use Rattle.plate_reader.specs.PlateSections.{dec-fit}
-use Rattle.plate_reader.proofs.outside_part.Statement.{statement}
-use Rattle.plate_reader.proofs.outside_part.Tie as tie
+use Rattle.plate_reader.proofs.outside_pairs.Statement.{statement}
+use Rattle.plate_reader.proofs.outside_pairs.Tie as tie
 
 outside-start-requires : tie.Need-outside-start-requires
 outside-start-requires c κs = search needs
@@ -30,10 +30,11 @@ unfolding outsidePairs
 returns c =
     let p = c .before .before .before .args .plate .now in
     let start = c .before .outside-start .result + 1 in
-    take-all (length p - start) (drop start p) (rw (length-drop start p) (omega arith)) ∙ ap (λ k. drop (k + 1) p) (c .before .outside-start .ensures .0)
+    take-all (length p - start) (drop start p) (rw (length-drop start p) (omega arith))
+    ∙ ap (λ k. drop (k + 1) p) (c .before .outside-start .ensures .0)
 
-pub outside-part-spec : {M : Type 1} → statement M
-outside-part-spec =
+pub outside-pairs-spec : {M : Type 1} → statement M
+outside-pairs-spec =
     tie.close
     (tie.spec
     outside-start-requires

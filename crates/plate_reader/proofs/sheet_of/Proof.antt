@@ -1,4 +1,4 @@
--- `plate_reader::sheet_part` meets its contract. Assumes nothing.
+-- `plate_reader::sheet_of` meets its contract. Assumes nothing.
 use borrow.Author.Needs.{needs}
 use mathlib.Core.Path.{_≡_, ap}
 use Prim.Native.Nat.{_-_}
@@ -6,8 +6,8 @@ use lib.ListN.{take}
 use native.Mathlib.Omega.{arith}
 use Rattle.format.specs.Sheet.{sheetLength}
 use Rattle.plate_reader.specs.PlateQuestions.{sheetOf}
-use Rattle.plate_reader.proofs.sheet_part.Statement.{statement}
-use Rattle.plate_reader.proofs.sheet_part.Tie as tie
+use Rattle.plate_reader.proofs.sheet_of.Statement.{statement}
+use Rattle.plate_reader.proofs.sheet_of.Tie as tie
 
 sheet-length-requires : tie.Need-sheet-length-requires
 sheet-length-requires c κs = search needs
@@ -28,6 +28,6 @@ returns c =
     let size : c .before .sheet-length .result - 0 ≡ sheetLength p = omega arith in
     ap (λ n. take n p) size
 
-pub sheet-part-spec : {M : Type 1} → statement M
-sheet-part-spec =
+pub sheet-of-spec : {M : Type 1} → statement M
+sheet-of-spec =
     tie.close (tie.spec sheet-length-requires sub-result part-result-start part-result-end returns)
