@@ -3,25 +3,28 @@ ghost use mathlib.Core.Path.{_≡_};
 ghost use Rattle.format.specs.Sheet.{sheetNo};
 ghost use Rattle.orders.specs.BothOrders.{BothOrders};
 ghost use Rattle.orders.specs.Ordering.{Ordering};
+use crate::layout::ARRAY_CELLS;
 use height_order::write_points;
 use numbers::blank;
 use numbers::write_numbers;
-use questions::making_no;
+use questions::asked_no;
 use right_order::write_right_order;
 
+mod given;
 mod height_order;
+pub mod layout;
 mod numbers;
 mod questions;
 mod ranks;
 mod right_order;
 
 // The array of the points, field after field. specs/Arrays.antt has its layout.
-pub type PointArray = [u16; 483];
+pub type PointArray = [u16; ARRAY_CELLS];
 
 // The points in both orders, or why there are none: the number of the first no, 0 for none.
 pub struct OrderedPoints {
-    pub number: u8,
-    pub heights: [u16; 483],
+    pub no: u8,
+    pub heights: [u16; ARRAY_CELLS],
 }
 
 // The array of an accepted sheet.
@@ -36,20 +39,20 @@ fn both_orders(sheet: &[u8]) -> PointArray
     heights
 }
 
-// The questions of making, for an output of `room` bytes and a workspace of `cells` numbers; and the points of the sheet in both orders,
+// The sheet's questions, 21, which `fits` answers, and 22 for a workspace of `cells` numbers; and the points of the sheet in both orders,
 // where none is answered no.
-pub fn ordered_points(sheet: &[u8], room: usize, cells: usize) -> OrderedPoints
-    ensures { λ r. ⌜ Ordering (now (sheet .entry)) room cells r ⌝ }
+pub fn ordered_points(sheet: &[u8], fits: bool, cells: usize) -> OrderedPoints
+    ensures { λ r. ⌜ Ordering (now (sheet .entry)) fits cells r ⌝ }
 {
-    let number = making_no(sheet, room, cells);
-    if number != 0 {
+    let no = asked_no(sheet, fits, cells);
+    if no != 0 {
         return OrderedPoints {
-            number,
+            no,
             heights: blank(),
         };
     }
     OrderedPoints {
-        number: 0,
+        no: 0,
         heights: both_orders(sheet),
     }
 }

@@ -1,49 +1,47 @@
 // The cells of the array that don't depend on where the points are.
 ghost use mathlib.Core.Path.{_≡_};
-ghost use Prim.Native.Nat.{_+_, _*_};
+ghost use Prim.Native.Nat.{_+_};
 ghost use lib.ListN.{length, set};
 ghost use Rattle.format.specs.Sheet.{pointCount, labelWidth, labelHeight};
 ghost use Rattle.orders.specs.Sums.{tri, tet};
 ghost use Rattle.orders.specs.Numbers.{blankOf, Numbers};
 ghost use Rattle.orders.specs.Cells.{BothWritten};
+ghost use Rattle.orders.specs.Layout.{sumCells, triangularField, tetrahedralField, countCell, widthCell, heightCell, arrayCells};
 use crate::PointArray;
+use crate::layout::ARRAY_CELLS;
+use crate::layout::COUNT_CELL;
+use crate::layout::HEIGHT_CELL;
+use crate::layout::SUM_CELLS;
+use crate::layout::TETRAHEDRAL_FIELD;
+use crate::layout::TRIANGULAR_FIELD;
+use crate::layout::WIDTH_CELL;
 
 // The number of points, and the width and height of a label.
 fn write_counts(sheet: &[u8], heights: &mut PointArray)
-    ensures { λ _. ⌜ now (heights .exit) ≡ set (set (set (now (heights .entry)) 480 (pointCount (now (sheet .entry)))) 481 (labelWidth (now (sheet .entry)))) 482 (labelHeight (now (sheet .entry))) ⌝ }
+    ensures { λ _. ⌜ now (heights .exit)
+        ≡ set (set (set (now (heights .entry)) countCell (pointCount (now (sheet .entry)))) widthCell (labelWidth (now (sheet .entry))))
+        heightCell (labelHeight (now (sheet .entry))) ⌝ }
 {
-    heights[480] = format::point_count(sheet) as u16;
-    heights[481] = format::label_width(sheet);
-    heights[482] = format::label_height(sheet);
+    heights[COUNT_CELL] = format::point_count(sheet) as u16;
+    heights[WIDTH_CELL] = format::label_width(sheet);
+    heights[HEIGHT_CELL] = format::label_height(sheet);
 }
 
 // The triangular numbers, and the tetrahedral ones: sums of the triangular ones.
 fn write_sums(heights: &mut PointArray)
-    requires { ⌜ length (now heights) ≡ 483 ⌝ }
-    ensures { λ _. ⌜ BothWritten (λ k. 204 + k) tri (λ k. 240 + k) tet 36 (now (heights .entry)) (now (heights .exit)) ⌝ }
+    requires { ⌜ length (now heights) ≡ arrayCells ⌝ }
+    ensures { λ _. ⌜ BothWritten (λ k. triangularField + k) tri (λ k. tetrahedralField + k) tet
+        sumCells (now (heights .entry)) (now (heights .exit)) ⌝ }
 {
     let mut triangular: u16 = 0;
     let mut tetrahedral: u16 = 0;
     let mut k = 0;
-    while k < 36 {
-        heights[204 + k] = triangular;
-        heights[240 + k] = tetrahedral;
+    while k < SUM_CELLS {
+        heights[TRIANGULAR_FIELD + k] = triangular;
+        heights[TETRAHEDRAL_FIELD + k] = tetrahedral;
         tetrahedral += triangular;
         triangular += k as u16;
         k += 1;
-    }
-}
-
-// Every place weighs 1, in the first of its weight's four cells, and may be inside.
-fn write_alike(heights: &mut PointArray)
-    requires { ⌜ length (now heights) ≡ 483 ⌝ }
-    ensures { λ _. ⌜ BothWritten (λ i. 276 + i * 4) (λ i. 1) (λ i. 412 + i) (λ i. 1) 34 (now (heights .entry)) (now (heights .exit)) ⌝ }
-{
-    let mut i = 0;
-    while i < 34 {
-        heights[276 + i * 4] = 1;
-        heights[412 + i] = 1;
-        i += 1;
     }
 }
 
@@ -51,7 +49,7 @@ fn write_alike(heights: &mut PointArray)
 pub(crate) fn blank() -> PointArray
     ensures { λ r. ⌜ r ≡ blankOf ⌝ }
 {
-    [0u16; 483]
+    [0u16; ARRAY_CELLS]
 }
 
 // All of these cells, in an array of zeros.
@@ -61,5 +59,4 @@ pub(crate) fn write_numbers(sheet: &[u8], heights: &mut PointArray)
 {
     write_counts(sheet, heights);
     write_sums(heights);
-    write_alike(heights);
 }

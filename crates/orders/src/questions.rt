@@ -1,28 +1,29 @@
-// The questions of making.
+// The questions before the choice.
 ghost use mathlib.Core.Path.{_≡_};
-ghost use Rattle.format.specs.MakingQuestions.{buffersNo, makingNo};
+ghost use Rattle.format.specs.Sheet.{ask};
+ghost use Rattle.format.specs.MakingQuestions.{workspaceNo, askedNo};
 use format::SheetAnswer;
+use format::WORKSPACE_CELLS;
 
-// The first no of 21 and 22, 0 for none: the output has `room` bytes, the workspace `cells` numbers.
-fn buffers_no(sheet: &[u8], room: usize, cells: usize) -> u8
-    ensures { λ r. ⌜ r ≡ buffersNo (now (sheet .entry)) room cells ⌝ }
+// The first no of 21, which `fits` answers, and 22, 0 for none: the workspace has `cells` numbers.
+fn buffers_no(fits: bool, cells: usize) -> u8
+    ensures { λ r. ⌜ r ≡ ask fits 21 (workspaceNo cells) ⌝ }
 {
-    let needed = 12 + 8 * format::point_count(sheet) as usize;
-    if room < needed {
+    if !fits {
         return 21;
     }
-    if cells < 32768 {
+    if cells < WORKSPACE_CELLS {
         return 22;
     }
     0
 }
 
-// The first no of making, 0 for none.
-pub(crate) fn making_no(sheet: &[u8], room: usize, cells: usize) -> u8
-    ensures { λ r. ⌜ r ≡ makingNo (now (sheet .entry)) room cells ⌝ }
+// The first no of the sheet's questions, 21 and 22, 0 for none.
+pub(crate) fn asked_no(sheet: &[u8], fits: bool, cells: usize) -> u8
+    ensures { λ r. ⌜ r ≡ askedNo (now (sheet .entry)) fits cells ⌝ }
 {
     match format::check_sheet(sheet) {
-        SheetAnswer::Accepted => buffers_no(sheet, room, cells),
+        SheetAnswer::Accepted => buffers_no(fits, cells),
         SheetAnswer::Refused(no) => no,
     }
 }

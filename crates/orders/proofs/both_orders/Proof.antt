@@ -26,12 +26,16 @@ cast-write-right-order : tie.Need-cast-write-right-order
 cast-write-right-order c = search needs
 
 write-right-order-requires : tie.Need-write-right-order-requires
-write-right-order-requires c κs = rw (c .before .point-count .ensures) (right-ready (fits (c .before .before .before .before .before .before .before .before)) (c .before .before .before .before .write-numbers .ensures) (c .before .before .write-points .ensures))
+write-right-order-requires c κs =
+    rw (c .before .point-count .ensures)
+    (right-ready (fits (c .before .before .before .before .before .before .before .before))
+    (c .before .before .before .before .write-numbers .ensures) (c .before .before .write-points .ensures))
 
 returns : tie.Need-returns
 returns c =
     let right = rw (c .before .before .point-count .ensures) at (c .write-right-order .ensures) in
-    both-orders (fits (c .before .before .before .before .before .before .before .before .before)) (c .before .before .before .before .before .write-numbers .ensures) (c .before .before .before .write-points .ensures) right
+    both-orders (fits (c .before .before .before .before .before .before .before .before .before))
+    (c .before .before .before .before .before .write-numbers .ensures) (c .before .before .before .write-points .ensures) right
 
 pub both-orders-spec : {M : Type 1} → statement M
 both-orders-spec =

@@ -1,7 +1,9 @@
--- `orders::numbers::write_sums` meets its contract: after k turns the sums are those of the numbers, and of the triangular numbers, below k.
+-- `orders::numbers::write_sums` meets its contract: after k turns the sums are those of the numbers, and of the triangular numbers, below
+-- k.
 -- Assumes nothing.
 use mathlib.Core.Path.{_≡_, refl}
 use Prim.Native.Nat.{_≤_, _+_, _-_}
+use Rattle.orders.specs.Layout.{sumCells, triangularField, tetrahedralField}
 use Rattle.orders.specs.Cells.{BothWritten, both-none, both-more}
 use Rattle.orders.specs.Sums.{tri, tet}
 use Rattle.orders.specs.Sums.{tri-next, tet-next, tri-most, tet-most}
@@ -11,10 +13,12 @@ use Rattle.orders.proofs.numbers.write_sums.Statement.{statement}
 use Rattle.orders.proofs.numbers.write_sums.Tie as tie
 
 abbrev Inv-loop : tie.InvT-loop
-Inv-loop heights₀ triangular₀ tetrahedral₀ k₀ heights triangular tetrahedral k = (k ≤ 36) × (triangular ≡ tri k) × (tetrahedral ≡ tet k) × BothWritten (λ i. 204 + i) tri (λ i. 240 + i) tet k heights₀ heights
+Inv-loop heights₀ triangular₀ tetrahedral₀ k₀ heights triangular tetrahedral k =
+    (k ≤ sumCells) × (triangular ≡ tri k) × (tetrahedral ≡ tet k)
+    × BothWritten (λ i. triangularField + i) tri (λ i. tetrahedralField + i) tet k heights₀ heights
 
 abbrev μ-loop : tie.MeasureT-loop
-μ-loop heights₀ triangular₀ tetrahedral₀ k₀ heights triangular tetrahedral k = 36 - k
+μ-loop heights₀ triangular₀ tetrahedral₀ k₀ heights triangular tetrahedral k = sumCells - k
 
 loop-holds : tie.Need-loop-holds Inv-loop μ-loop
 unfolding tri tet
@@ -59,11 +63,12 @@ loop-again c =
       omega arith,
       omega (arith, tri-next (c .before .loop .k)),
       omega (arith, tet-next (c .before .loop .k)),
-      both-more _ _ _ _ _ _ _ _ _ (inv .3) (omega arith) (omega arith) (λ i l z. omega arith) (λ i l z. omega arith) (λ i j l m z. omega arith) (inv .1) (inv .2),
+      both-more _ _ _ _ _ _ _ _ _ (inv .3) (omega arith) (omega arith) (λ i l z. omega arith)
+          (λ i l z. omega arith) (λ i j l m z. omega arith) (inv .1) (inv .2),
     )
 
 returns : tie.Need-returns Inv-loop μ-loop
-returns c = let e : c .before .loop .k ≡ 36 = omega arith in rw e at (c .before .loop .inv .3)
+returns c = let e : c .before .loop .k ≡ sumCells = omega arith in rw e at (c .before .loop .inv .3)
 
 pub write-sums-spec : {M : Type 1} → statement M
 write-sums-spec =

@@ -1,9 +1,10 @@
+-- `orders::questions::asked_no` meets its contract. Assumes nothing.
 use borrow.Author.Needs.{needs}
 use Rattle.format.specs.Answers.{accepted-none, refused-no}
 use Rattle.format.specs.Asking.{then-later, then-first}
-use Rattle.format.specs.MakingQuestions.{makingNo}
-use Rattle.orders.proofs.questions.making_no.Statement.{statement}
-use Rattle.orders.proofs.questions.making_no.Tie as tie
+use Rattle.format.specs.MakingQuestions.{askedNo}
+use Rattle.orders.proofs.questions.asked_no.Statement.{statement}
+use Rattle.orders.proofs.questions.asked_no.Tie as tie
 
 check-sheet-requires : tie.Need-check-sheet-requires
 check-sheet-requires c κs = search needs
@@ -18,17 +19,18 @@ enum-known-no : tie.Need-enum-known-no
 enum-known-no c = search needs
 
 returns : tie.Need-returns
-unfolding makingNo
+unfolding askedNo
 returns c =
-    then-later _ _ _ (accepted-none _ _ (c .before .before .before .check-sheet .ensures) (c .before .enum-told .given .1)) (c .buffers-no .ensures)
+    then-later _ _ _ (accepted-none _ _ (c .before .before .before .check-sheet .ensures) (c .before .enum-told .given .1))
+    (c .buffers-no .ensures)
 
 returns-2 : tie.Need-returns-2
-unfolding makingNo
+unfolding askedNo
 returns-2 c =
     let r = refused-no _ _ _ (c .before .before .before .check-sheet .ensures) (c .before .no .given .1) in
     then-first _ _ _ (r .1) (r .0)
 
-pub making-no-spec : {M : Type 1} → statement M
-making-no-spec =
+pub asked-no-spec : {M : Type 1} → statement M
+asked-no-spec =
     tie.close
     (tie.spec check-sheet-requires enum-told buffers-no-requires enum-known-no returns returns-2)

@@ -1,0 +1,54 @@
+// What is given of each position beside its place: its weight, and whether it may be inside.
+ghost use mathlib.Core.Path.{_≡_};
+ghost use Prim.Native.Nat.{ℕ, _+_, _<_, _≤_};
+ghost use lib.ListN.{length, getD};
+ghost use Rattle.orders.specs.Words.{withValue};
+ghost use Rattle.orders.specs.Given.{weightOf, permitted, permission};
+ghost use Rattle.orders.specs.GivenCells.{GivenCells};
+ghost use Rattle.orders.specs.Layout.{fieldCells, weightField, arrayCells, firstPosition};
+use crate::PointArray;
+use crate::height_order::position_after;
+use crate::layout::FIRST_ALLOWED;
+use crate::layout::FIRST_WEIGHT;
+
+// The weight of a position: each weighs 1.
+fn weight_of(sheet: &[u8], position: u8) -> u64
+    ensures { λ r. ⌜ r ≡ weightOf (now (sheet .entry)) position ⌝ }
+{
+    1
+}
+
+// The permission of a position to be inside, 1 or 0: each has it.
+fn permission_of(sheet: &[u8], position: u8) -> u16
+    ensures { λ r. ⌜ r ≡ permission (permitted (now (sheet .entry)) position) ⌝ }
+{
+    1
+}
+
+// Stores a number of 64 bits in the four cells of a place.
+fn write_weight(heights: &mut PointArray, place: usize, weight: u64)
+    requires { ⌜ (length (now heights) ≡ arrayCells) × (place < weightField + fieldCells) ⌝ }
+    ensures { λ _. ⌜ now (heights .exit) ≡ withValue (now (heights .entry)) place weight ⌝ }
+{
+    let k = place * 4;
+    heights[k] = (weight % 65536) as u16;
+    heights[k + 1] = (weight / 65536 % 65536) as u16;
+    heights[k + 2] = (weight / 4294967296 % 65536) as u16;
+    heights[k + 3] = (weight / 281474976710656) as u16;
+}
+
+// The weights and permissions of the n points in height order.
+pub(crate) fn write_given(sheet: &[u8], n: usize, heights: &mut PointArray)
+    requires { ⌜ (n ≤ 32) × (length (now heights) ≡ arrayCells) × ((k : ℕ) → k < n → getD (now heights) (firstPosition + k) 0 < n) ⌝ }
+    ensures { λ _. ⌜ GivenCells (now (sheet .entry)) n (now (heights .entry)) (now (heights .exit)) ⌝ }
+{
+    let mut k = 0;
+    while k < n {
+        let position = position_after(heights, k);
+        let weight = weight_of(sheet, position);
+        let allowed = permission_of(sheet, position);
+        write_weight(heights, FIRST_WEIGHT + k, weight);
+        heights[FIRST_ALLOWED + k] = allowed;
+        k += 1;
+    }
+}
