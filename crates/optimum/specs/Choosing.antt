@@ -1,5 +1,6 @@
 -- What best_choice answers and leaves. Assumes nothing.
 use mathlib.Core.Path.{_≡_}
+use mathlib.Core.Bool.{Bool}
 use mathlib.Core.List.{List}
 use Prim.Native.Nat.{ℕ}
 use lib.ListN.{length, replicate}
@@ -9,12 +10,12 @@ use Rattle.labeling.specs.Best.{count, bestCount}
 use Rattle.format.specs.Sheet.{pointCount, pointsOf}
 use Rattle.format.specs.Plate.{insideBelow}
 use Rattle.format.specs.Padded.{padded}
-use Rattle.format.specs.MakingQuestions.{makingNo, workspaceAfter}
+use Rattle.format.specs.MakingQuestions.{askedNo, workspaceAfter}
 use Rattle.optimum.specs.declared.BestChoice.{BestChoice}
 
--- The two lists of a valid choice with the best count, each in 32 cells: "one byte for each inside position, ascending", and the outside points "from the
--- highest row down". WHICH BEST CHOICE IT IS STAYS OPEN, because document 01 leaves it open: "Which best choice is returned is open
--- where several exist."
+-- The two lists of a valid choice with the best count, each in 32 cells: "one byte for each inside position, ascending", and the outside
+-- points "from the highest row down". WHICH BEST CHOICE IT IS STAYS OPEN, because document 01 leaves it open: "Which best choice is
+-- returned is open where several exist."
 pub record BestSplit (s : List ℕ) (r : BestChoice) : Type 0 where
   pub choice : Choice
   pub valid : Valid (pointsOf s) choice
@@ -27,17 +28,17 @@ pub record BestSplit (s : List ℕ) (r : BestChoice) : Type 0 where
 -- Refused with the number k: no lists.
 abbrev pub nothingChosen : ℕ → BestChoice
 nothingChosen k = record {
-  number = k;
+  no = k;
   inside = replicate 32 0;
   «inside_count» = 0;
   outside = replicate 32 0;
   «outside_count» = 0;
 }
 
--- THE PROMISE of best_choice, on any sheet s, an output of `room` bytes and any workspace w: the number of the first no of making; the
--- workspace; and the lists.
-pub record Choosing (s : List ℕ) (room : ℕ) (w : List ℕ) (r : BestChoice) (w′ : List ℕ) : Type 0 where
-  pub number : r .number ≡ makingNo s room (length w)
-  pub workspace : w′ ≡ workspaceAfter (r .number) w
-  pub chosen : r .number ≡ 0 → BestSplit s r
-  pub refused : (r .number ≡ 0 → ⊥) → r ≡ nothingChosen (r .number)
+-- THE PROMISE of best_choice, on any sheet s, any answer `fits` to 21 and any workspace w: the number of the first no; the workspace; and
+-- the lists.
+pub record Choosing (s : List ℕ) (fits : Bool) (w : List ℕ) (r : BestChoice) (w′ : List ℕ) : Type 0 where
+  pub no : r .no ≡ askedNo s fits (length w)
+  pub workspace : w′ ≡ workspaceAfter (r .no) w
+  pub chosen : r .no ≡ 0 → BestSplit s r
+  pub refused : (r .no ≡ 0 → ⊥) → r ≡ nothingChosen (r .no)

@@ -5,23 +5,20 @@ use mathlib.Core.Bool.{Bool, true, false, not, _&&_, _||_}
 use Prim.Native.Nat.{ℕ, suc, _+_, _≤_, _<_}
 use lib.Dec.{ltb, leb, eqb}
 use native.Mathlib.Omega.{arith}
-use borrow.Author.Tests.{lt-ltb, le-ltb, le-leb, lt-leb, leb-true, eq-eqb, ne-eqb}
-use Rattle.labeling.specs.Tests.{same, not-both}
-use Rattle.labeling.specs.Recurrence.{Heights, Point, Sorted, overlaps, reachesOver, reach, good, clear}
-use Rattle.labeling.specs.RecurrenceTests.{less, dec-false, Reaches, dec-reaches, Between}
+use borrow.Author.Tests.{lt-ltb, le-ltb, le-leb, leb-true, eq-eqb, ne-eqb}
+use Rattle.labeling.specs.Decide.{same, not-both, less, dec-false}
+use Rattle.labeling.specs.Recurrence.{Heights, Point, Sorted, overlaps, reachesOver, reach, mayBeInside, rowsDiffer}
+use Rattle.labeling.specs.RecurrenceTests.{Reaches, dec-reaches, Between}
 use Rattle.labeling.specs.Safe.{unreached, dec-unreached}
-use Rattle.labeling.specs.Comparisons.{highOf, topOf, reach-top, good-compared}
+use Rattle.labeling.specs.Comparisons.{highOf, topOf, reach-top, may-be-inside-compared}
+use Rattle.format.specs.Stretches.{stretchesOverlap}
 use Rattle.optimum.specs.Limits.{labelBelow}
-
--- Two stretches of length d, from x and from y on, meet.
-unfoldable pub near : ℕ → ℕ → ℕ → Bool
-near x y d = ltb x (y + d) && ltb y (x + d)
 
 -- The label of p ends below the leader of b, if b is a point.
 unfoldable pub endsBelow : Heights → ℕ → ℕ → Bool
 endsBelow H p b = ltb (H .n) b || leb (H .row p + H .h) (H .row b)
 
--- p is a point strictly between the ends of a state.
+-- p is a point strictly between the ends of a slab.
 pub record Candidate (H : Heights) (a b q p : ℕ) : Type 0 where
   pub point : Point H p
   pub low : a < p
@@ -29,31 +26,31 @@ pub record Candidate (H : Heights) (a b q p : ℕ) : Type 0 where
   pub upper : b ≤ suc (H .n)
   pub fits : q ≤ a
 
--- NEAR
+-- STRETCHES
 
-pub near-not : (x y d : ℕ) → y + d ≤ x → false ≡ near x y d
-unfolding near
-near-not x y d l = rw (le-ltb x (y + d) l)
+pub stretches-not : (x y d : ℕ) → y + d ≤ x → false ≡ stretchesOverlap x y d
+stretches-not x y d l = rw (le-ltb x (y + d) l)
 
-pub near-rest : (x y d : ℕ) → x < y + d → ltb y (x + d) ≡ near x y d
-unfolding near
-near-rest x y d l = rw (lt-ltb x (y + d) l)
+pub stretches-rest : (x y d : ℕ) → x < y + d → ltb y (x + d) ≡ stretchesOverlap x y d
+stretches-rest x y d l = rw (lt-ltb x (y + d) l)
 
 -- OVERLAPS
 
-overlaps-near : (H : Heights) (i j : ℕ) → overlaps H i j ≡ (near (H .column i) (H .column j) (H .w) && near (H .row i) (H .row j) (H .h))
-unfolding overlaps near
-overlaps-near H i j = assoc (ltb (H .column i) (H .column j + H .w)) (ltb (H .column j) (H .column i + H .w)) _
+overlaps-stretches : (H : Heights) (i j : ℕ)
+    → overlaps H i j ≡ (stretchesOverlap (H .column i) (H .column j) (H .w) && stretchesOverlap (H .row i) (H .row j) (H .h))
+unfolding overlaps
+overlaps-stretches H i j = assoc (ltb (H .column i) (H .column j + H .w)) (ltb (H .column j) (H .column i + H .w)) _
   where
     assoc : (a b c : Bool) → (a && (b && c)) ≡ ((a && b) && c)
     assoc true b c = refl
     assoc false b c = refl
 
-pub overlaps-not : (H : Heights) (i j : ℕ) → near (H .column i) (H .column j) (H .w) ≡ false → false ≡ overlaps H i j
-overlaps-not H i j e = sym (overlaps-near H i j ∙ rw e)
+pub overlaps-not : (H : Heights) (i j : ℕ) → stretchesOverlap (H .column i) (H .column j) (H .w) ≡ false → false ≡ overlaps H i j
+overlaps-not H i j e = sym (overlaps-stretches H i j ∙ rw e)
 
-pub overlaps-rest : (H : Heights) (i j : ℕ) (z : Bool) → near (H .column i) (H .column j) (H .w) ≡ true → z ≡ near (H .row i) (H .row j) (H .h) → z ≡ overlaps H i j
-overlaps-rest H i j z e f = f ∙ sym (overlaps-near H i j ∙ rw e)
+pub overlaps-rest : (H : Heights) (i j : ℕ) (z : Bool) → stretchesOverlap (H .column i) (H .column j) (H .w) ≡ true
+    → z ≡ stretchesOverlap (H .row i) (H .row j) (H .h) → z ≡ overlaps H i j
+overlaps-rest H i j z e f = f ∙ sym (overlaps-stretches H i j ∙ rw e)
 
 -- REACHES OVER
 
@@ -64,7 +61,8 @@ module _ (H : Heights) (p i : ℕ) where
   pub reaches-left : H .column i ≤ H .column p → false ≡ reachesOver H p i
   reaches-left l = sym (dec-false (dec-reaches H p i) (λ r. omega (arith, r .right)))
 
-  pub reaches-rest : 1 ≤ i → i ≤ p → H .row p < H .row i + H .h → H .column p < H .column i → ltb (H .column i) (H .column p + H .w) ≡ reachesOver H p i
+  pub reaches-rest : 1 ≤ i → i ≤ p → H .row p < H .row i + H .h → H .column p < H .column i
+      → ltb (H .column i) (H .column p + H .w) ≡ reachesOver H p i
   unfolding reachesOver
   reaches-rest l u m k =
       let u′ : i < p = same i p (λ e. absurd (omega (arith, ap (H .column) e))) (λ ne. omega arith) in
@@ -82,13 +80,13 @@ ends-point H p b l = rw (le-ltb (H .n) b l)
 
 -- IN ANOTHER ROW
 
-pub clear-boundary : (H : Heights) (p b : ℕ) → H .n < b → true ≡ clear H p b
-unfolding clear
-clear-boundary H p b l = rw (lt-ltb (H .n) b l)
+pub differ-boundary : (H : Heights) (p b : ℕ) → H .n < b → true ≡ rowsDiffer H p b
+unfolding rowsDiffer
+differ-boundary H p b l = rw (lt-ltb (H .n) b l)
 
-pub clear-point : (H : Heights) (p b : ℕ) → b ≤ H .n → not (eqb (H .row p) (H .row b)) ≡ clear H p b
-unfolding clear
-clear-point H p b l = rw (le-ltb (H .n) b l)
+pub differ-point : (H : Heights) (p b : ℕ) → b ≤ H .n → not (eqb (H .row p) (H .row b)) ≡ rowsDiffer H p b
+unfolding rowsDiffer
+differ-point H p b l = rw (le-ltb (H .n) b l)
 
 -- THE LABEL THAT REACHES OVER A CUT
 
@@ -106,37 +104,35 @@ module _ (H : Heights) (a p q : ℕ) (k : Point H p) where
   pub reach-none : (top : ℕ) → top ≡ topOf H p → top ≤ a → reachesOver H p q ≡ false → 0 ≡ reach H a p q
   reach-none top e l z = sym (reach-top H a p q (k .high) ∙ rw (← e, le-ltb a top l, z))
 
--- WHO MAY BE INSIDE
+-- WHO MAY BE INSIDE: the code's tests in their order, each with those after it
 
-module _ {H : Heights} (L : Sorted H) {a b q p : ℕ} (x : Candidate H a b q p) where
-  good-is : good H (H .rank p) a b q ≡ (H .allowed p && (leb (topOf H p) a && (leb b (highOf H p) && (endsBelow H p b && (eqb q 0 || not (overlaps H p q))))))
-  unfolding endsBelow
-  good-is =
-      let e : H .atRank (H .rank p) ≡ p = L .atRank-rank p (x .point) in
-      let k : Between a (H .atRank (H .rank p)) b = rw e (record { low = x .low; high = x .high }) in
-      rw e at (good-compared L (H .rank p) a b q (L .rank-below p (x .point)) k (x .upper))
+abbrev pub besideReaching : Heights → ℕ → ℕ → Bool
+besideReaching H q p = eqb q 0 || not (overlaps H p q)
 
-  pub not-allowed : H .allowed p ≡ false → false ≡ good H (H .rank p) a b q
-  not-allowed e = sym (good-is ∙ rw e)
+abbrev pub belowUpper : Heights → ℕ → ℕ → ℕ → Bool
+belowUpper H b q p = endsBelow H p b && besideReaching H q p
 
-  module _ (e : H .allowed p ≡ true) where
-    pub too-low : (top : ℕ) → top ≡ topOf H p → a < top → false ≡ good H (H .rank p) a b q
-    too-low top z l = sym (good-is ∙ rw (e, ← z, lt-leb top a l))
+abbrev pub belowHigh : Heights → ℕ → ℕ → ℕ → Bool
+belowHigh H b q p = leb b (highOf H p) && belowUpper H b q p
 
-    module _ (top : ℕ) (z : top ≡ topOf H p) (l : top ≤ a) where
-      pub too-high : (high : ℕ) → high ≡ highOf H p → high < b → false ≡ good H (H .rank p) a b q
-      too-high high y u = sym (good-is ∙ rw (e, ← z, le-leb top a l, ← y, lt-leb b high u))
+abbrev pub aboveTop : Heights → ℕ → ℕ → ℕ → ℕ → Bool
+aboveTop H a b q p = leb (topOf H p) a && belowHigh H b q p
 
-      module _ (high : ℕ) (y : high ≡ highOf H p) (u : b ≤ high) where
-        pub ends-above : endsBelow H p b ≡ false → false ≡ good H (H .rank p) a b q
-        ends-above f = sym (good-is ∙ rw (e, ← z, le-leb top a l, ← y, le-leb b high u, f))
+-- They decide whether an open point may be inside.
+pub inside-tested : {H : Heights} → Sorted H → {a b q p : ℕ} → Candidate H a b q p
+    → (r : Bool) → r ≡ (H .allowed p && aboveTop H a b q p) → r ≡ mayBeInside H (H .rank p) a b q
+unfolding endsBelow
+inside-tested {H} L {a} {b} {q} {p} x r d =
+    let e : H .atRank (H .rank p) ≡ p = L .atRank-rank p (x .point) in
+    let k : Between a (H .atRank (H .rank p)) b = rw e (record { low = x .low; high = x .high }) in
+    d ∙ sym (rw e at (may-be-inside-compared L (H .rank p) a b q (L .rank-below p (x .point)) k (x .upper)))
 
-        module _ (f : endsBelow H p b ≡ true) where
-          pub good-alone : q ≡ 0 → true ≡ good H (H .rank p) a b q
-          good-alone g = sym (good-is ∙ rw (e, ← z, le-leb top a l, ← y, le-leb b high u, f, eq-eqb q 0 g))
+-- The last of them: there is no label that reaches over the lower end, or it doesn't overlap.
+pub beside-none : (H : Heights) (q p : ℕ) → q ≡ 0 → true ≡ besideReaching H q p
+beside-none H q p e = rw (eq-eqb q 0 e)
 
-          pub good-beside : (q ≡ 0 → ⊥) → (meet : Bool) → meet ≡ overlaps H p q → not meet ≡ good H (H .rank p) a b q
-          good-beside g meet o = sym (good-is ∙ rw (e, ← z, le-leb top a l, ← y, le-leb b high u, f, ne-eqb q 0 g, o))
+pub beside-some : (H : Heights) (q p : ℕ) (meet : Bool) → (q ≡ 0 → ⊥) → meet ≡ overlaps H p q → not meet ≡ besideReaching H q p
+beside-some H q p meet ne e = rw (ne-eqb q 0 ne, e)
 
 -- HOW FAR A LABEL REACHES
 
@@ -161,7 +157,8 @@ module _ {H : Heights} (L : Sorted H) {p b y : ℕ} (pos : 1 ≤ p) (upper : b �
             (λ u.
             let up : H .row y ≤ H .row z = same z y
             (λ v. rw v (omega arith))
-            (λ ne. L .rows y z (record { low = omega (arith, x .low); high = omega arith }) (record { low = omega arith; high = omega arith }) (omega arith)) in
+            (λ ne. L .rows y z (record { low = omega (arith, x .low); high = omega arith })
+            (record { low = omega arith; high = omega arith }) (omega arith)) in
             omega (arith, r .over));
       }))
 

@@ -8,11 +8,14 @@ use lib.Dec.{ltb, leb, eqb}
 use lib.ListN.{length, getD, set, length-set}
 use lib.Seq.{getD-set-same, getD-set-other}
 use borrow.Author.Tests.{leb-true, leb-false}
-use Rattle.labeling.specs.Tests.{same, not-both, Decides, dec-and, dec-le, dec-lt}
+use Rattle.labeling.specs.Decide.{same, not-both, Decides, dec-and, dec-le, dec-lt, less, dec-unique, dec-map}
 use Rattle.labeling.specs.Recurrence.{Heights, Point, Sorted, reachesOver, greatest}
-use Rattle.labeling.specs.RecurrenceTests.{less, dec-unique, dec-map, dec-reaches}
+use Rattle.labeling.specs.RecurrenceTests.{dec-reaches}
 use Rattle.labeling.specs.Comparisons.{least, Passes, greatest-unique, least-unique, overlapsAbove, highOf, topOf, dec-high}
-use Rattle.orders.specs.Arrays.{weightAt, heightsOf, positionAt}
+use Rattle.orders.specs.Arrays.{heightsOf, positionAt}
+use Rattle.orders.specs.Words.{valueAt}
+use Rattle.orders.specs.Layout.{fieldCells, rowField, rankField, atRankField, topField, highField, triangularField, weightField}
+use Rattle.orders.specs.Layout.{allowedField, positionField, countCell, widthCell, heightCell, arrayCells, firstTop, firstHigh}
 use Rattle.optimum.specs.SameHeights.{SameHeights, sorted-same, high-same, top-same}
 
 -- DOWN TO THE GREATEST, UP TO THE LEAST
@@ -36,11 +39,13 @@ module _ {f : ℕ → Bool} {m : ℕ} where
   greatest-next {j} a e = record { most = λ k p. same k j (λ z. absurd (not-both (p .passes) (rw z e))) (λ ne. omega (arith, a .most k p)) }
 
   pub least-found : {j : ℕ} → AtLeast f m j → 1 ≤ j → j ≤ m → f j ≡ true → j ≡ least f (suc m) m
-  least-found {j} a l u e = sym (least-unique f (suc m) m j (omega arith) (omega arith) (λ z. record { low = l; high = u; passes = e }) (a .least))
+  least-found {j} a l u e =
+      sym (least-unique f (suc m) m j (omega arith) (omega arith) (λ z. record { low = l; high = u; passes = e }) (a .least))
 
   pub least-none : {j : ℕ} → AtLeast f m j → m < j → suc m ≡ least f (suc m) m
   least-none {j} a l =
-      sym (least-unique f (suc m) m (suc m) (omega arith) (omega arith) (λ z. absurd (z refl)) (λ k p. omega (arith, a .least k p, p .high)))
+      sym (least-unique f (suc m) m (suc m) (omega arith) (omega arith) (λ z. absurd (z refl))
+      (λ k p. omega (arith, a .least k p, p .high)))
 
   pub least-next : {j : ℕ} → AtLeast f m j → f j ≡ false → AtLeast f m (j + 1)
   least-next {j} a e = record { least = λ k p. same k j (λ z. absurd (not-both (p .passes) (rw z e))) (λ ne. omega (arith, a .least k p)) }
@@ -168,39 +173,40 @@ high-none H i j l a = least-none a l
 
 -- Few points in both orders.
 pub record InOrder (s : List ℕ) : Type 0 where
-  pub long : length s ≡ 483
+  pub long : length s ≡ arrayCells
   pub few : heightsOf s .n ≤ 32
   pub sorted : Sorted (heightsOf s)
 
 -- Only cells of top and high differ.
 pub record Kept (s r : List ℕ) : Type 0 where
   pub long : length r ≡ length s
-  pub cell : (c : ℕ) → (136 ≤ c → c < 204 → ⊥) → getD r c 0 ≡ getD s c 0
+  pub cell : (c : ℕ) → (topField ≤ c → c < triangularField → ⊥) → getD r c 0 ≡ getD s c 0
 
 module _ {s r : List ℕ} (K : Kept s r) where
-  pub kept-position : (i : ℕ) → i < 34 → positionAt r i ≡ positionAt s i
+  pub kept-position : (i : ℕ) → i < fieldCells → positionAt r i ≡ positionAt s i
   unfolding positionAt
-  kept-position i l = K .cell (446 + i) (λ a b. omega arith)
+  kept-position i l = K .cell (positionField + i) (λ a b. omega arith)
 
   pub kept-same : heightsOf s .n ≤ 32 → SameHeights (heightsOf s) (heightsOf r)
-  unfolding heightsOf weightAt
+  unfolding heightsOf valueAt
   kept-same few = record {
     few = few;
-    n = K .cell 480 (λ a b. omega arith);
-    w = K .cell 481 (λ a b. omega arith);
-    h = K .cell 482 (λ a b. omega arith);
+    n = K .cell countCell (λ a b. omega arith);
+    w = K .cell widthCell (λ a b. omega arith);
+    h = K .cell heightCell (λ a b. omega arith);
     column = λ i l. K .cell i (λ a b. omega arith);
-    row = λ i l. K .cell (34 + i) (λ a b. omega arith);
+    row = λ i l. K .cell (rowField + i) (λ a b. omega arith);
     weight = λ i l.
+        let p = (weightField + i) * 4 in
         rw (
-          K .cell (276 + i * 4) (λ a b. omega arith),
-          K .cell (277 + i * 4) (λ a b. omega arith),
-          K .cell (278 + i * 4) (λ a b. omega arith),
-          K .cell (279 + i * 4) (λ a b. omega arith),
+          K .cell p (λ a b. omega arith),
+          K .cell (p + 1) (λ a b. omega arith),
+          K .cell (p + 2) (λ a b. omega arith),
+          K .cell (p + 3) (λ a b. omega arith),
         );
-    allowed = λ i l. ap (λ x. eqb x 1) (K .cell (412 + i) (λ a b. omega arith));
-    atRank = λ t l. K .cell (102 + t) (λ a b. omega arith);
-    rank = λ i l. K .cell (68 + i) (λ a b. omega arith);
+    allowed = λ i l. ap (λ x. eqb x 1) (K .cell (allowedField + i) (λ a b. omega arith));
+    atRank = λ t l. K .cell (atRankField + t) (λ a b. omega arith);
+    rank = λ i l. K .cell (rankField + i) (λ a b. omega arith);
   }
 
   pub kept-order : InOrder s → InOrder r
@@ -213,14 +219,14 @@ module _ {s r : List ℕ} (K : Kept s r) where
 -- Top and high of each point; the rest is as it was.
 pub record Limited (s r : List ℕ) : Type 0 where
   pub kept : Kept s r
-  pub top-is : (i : ℕ) → Point (heightsOf r) i → getD r (136 + i) 0 ≡ topOf (heightsOf r) i
-  pub high-is : (i : ℕ) → Point (heightsOf r) i → getD r (170 + i) 0 ≡ highOf (heightsOf r) i
+  pub top-is : (i : ℕ) → Point (heightsOf r) i → getD r (topField + i) 0 ≡ topOf (heightsOf r) i
+  pub high-is : (i : ℕ) → Point (heightsOf r) i → getD r (highField + i) 0 ≡ highOf (heightsOf r) i
 
 -- Those of the points 1 to m are written into s.
 pub record LimitedTo (s : List ℕ) (m : ℕ) (r : List ℕ) : Type 0 where
   pub kept : Kept s r
-  pub top : (k : ℕ) → k < m → getD r (137 + k) 0 ≡ topOf (heightsOf s) (k + 1)
-  pub high : (k : ℕ) → k < m → getD r (171 + k) 0 ≡ highOf (heightsOf s) (k + 1)
+  pub top : (k : ℕ) → k < m → getD r (firstTop + k) 0 ≡ topOf (heightsOf s) (k + 1)
+  pub high : (k : ℕ) → k < m → getD r (firstHigh + k) 0 ≡ highOf (heightsOf s) (k + 1)
 
 pub limited-none : (s : List ℕ) → LimitedTo s 0 s
 limited-none s = record {
@@ -230,22 +236,23 @@ limited-none s = record {
 }
 
 -- One more point, whose top is t and whose high is h.
-module _ {s : List ℕ} {m : ℕ} {r : List ℕ} (few : m < 32) (long : length r ≡ 483) (T : LimitedTo s m r) (t h : ℕ) where
+module _ {s : List ℕ} {m : ℕ} {r : List ℕ} (few : m < 32) (long : length r ≡ arrayCells) (T : LimitedTo s m r) (t h : ℕ) where
   abbrev with-top : List ℕ
-  with-top = set r (137 + m) t
+  with-top = set r (firstTop + m) t
 
   abbrev with-high : List ℕ
-  with-high = set with-top (171 + m) h
+  with-high = set with-top (firstHigh + m) h
 
   -- a cell that isn't written now
-  beside : (c : ℕ) → (c ≡ 137 + m → ⊥) → (c ≡ 171 + m → ⊥) → getD with-high c 0 ≡ getD r c 0
-  beside c x y = getD-set-other with-top (171 + m) c h 0 y ∙ getD-set-other r (137 + m) c t 0 x
+  beside : (c : ℕ) → (c ≡ firstTop + m → ⊥) → (c ≡ firstHigh + m → ⊥) → getD with-high c 0 ≡ getD r c 0
+  beside c x y = getD-set-other with-top (firstHigh + m) c h 0 y ∙ getD-set-other r (firstTop + m) c t 0 x
 
-  top-here : getD with-high (137 + m) 0 ≡ t
-  top-here = getD-set-other with-top (171 + m) (137 + m) h 0 (λ e. omega arith) ∙ getD-set-same r (137 + m) t 0 (omega arith)
+  top-here : getD with-high (firstTop + m) 0 ≡ t
+  top-here =
+      getD-set-other with-top (firstHigh + m) (firstTop + m) h 0 (λ e. omega arith) ∙ getD-set-same r (firstTop + m) t 0 (omega arith)
 
-  high-here : getD with-high (171 + m) 0 ≡ h
-  high-here = getD-set-same with-top (171 + m) h 0 (simp length-set (omega arith))
+  high-here : getD with-high (firstHigh + m) 0 ≡ h
+  high-here = getD-set-same with-top (firstHigh + m) h 0 (simp length-set (omega arith))
 
   pub limited-more : t ≡ topOf (heightsOf s) (m + 1) → h ≡ highOf (heightsOf s) (m + 1) → LimitedTo s (m + 1) with-high
   limited-more e f = record {
@@ -256,15 +263,16 @@ module _ {s : List ℕ} {m : ℕ} {r : List ℕ} (few : m < 32) (long : length r
     top = λ k b.
         same k m
         (λ z. rw z (top-here ∙ e))
-        (λ ne. beside (137 + k) (λ z. omega arith) (λ z. omega arith) ∙ T .top k (omega arith));
+        (λ ne. beside (firstTop + k) (λ z. omega arith) (λ z. omega arith) ∙ T .top k (omega arith));
     high = λ k b.
         same k m
         (λ z. rw z (high-here ∙ f))
-        (λ ne. beside (171 + k) (λ z. omega arith) (λ z. omega arith) ∙ T .high k (omega arith));
+        (λ ne. beside (firstHigh + k) (λ z. omega arith) (λ z. omega arith) ∙ T .high k (omega arith));
   }
 
 -- What was written for the points 1 to m, from cell c + 1 on.
-at-point : (c : ℕ) (f : ℕ → ℕ) (r : List ℕ) {m : ℕ} → ((k : ℕ) → k < m → getD r (c + 1 + k) 0 ≡ f (k + 1)) → (i : ℕ) → 1 ≤ i → i ≤ m → getD r (c + i) 0 ≡ f i
+at-point : (c : ℕ) (f : ℕ → ℕ) (r : List ℕ) {m : ℕ} → ((k : ℕ) → k < m → getD r (c + 1 + k) 0 ≡ f (k + 1)) → (i : ℕ) → 1 ≤ i → i ≤ m
+    → getD r (c + i) 0 ≡ f i
 at-point c f r {m} w i l u =
     let x : c + i ≡ c + 1 + (i - 1) = omega arith in
     let y : i - 1 + 1 ≡ i = omega arith in
@@ -277,6 +285,6 @@ limited {s} {r} o T =
     let within : (i : ℕ) → Point (heightsOf r) i → i ≤ heightsOf s .n = λ i p. omega (arith, H .n, p .high) in
     record {
       kept = T .kept;
-      top-is = λ i p. at-point 136 (topOf (heightsOf s)) r (T .top) i (p .low) (within i p) ∙ sym (top-same H i (within i p));
-      high-is = λ i p. at-point 170 (highOf (heightsOf s)) r (T .high) i (p .low) (within i p) ∙ sym (high-same H i (within i p));
+      top-is = λ i p. at-point topField (topOf (heightsOf s)) r (T .top) i (p .low) (within i p) ∙ sym (top-same H i (within i p));
+      high-is = λ i p. at-point highField (highOf (heightsOf s)) r (T .high) i (p .low) (within i p) ∙ sym (high-same H i (within i p));
     }

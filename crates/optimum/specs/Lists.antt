@@ -7,7 +7,7 @@ use native.Mathlib.Numerals.{add-one}
 use native.Mathlib.Omega.{arith}
 use lib.ListN.{length, set, replicate, length-append}
 use Rattle.labeling.specs.Points.{Choice}
-use Rattle.labeling.specs.Tests.{decide}
+use Rattle.labeling.specs.Decide.{decide}
 use Rattle.format.specs.Plate.{insideBelow}
 use Rattle.format.specs.Padded.{padded, drop-zeros}
 use Rattle.format.specs.Written.{written, written-none, written-more, written-first}
@@ -25,14 +25,18 @@ inside-few S (suc m) =
     (λ e. rw e (omega (arith, length-append (insideBelow S m) [])))
 
 -- position m is inside, and is written after those below it
-pub inside-more : (S : Choice) (d : List ℕ) (m count : ℕ) (list : List ℕ) → count < length d → S m ≡ true → count ≡ length (insideBelow S m) → list ≡ written d 0 (insideBelow S m) → (count + 1 ≡ length (insideBelow S (m + 1))) × (set list count m ≡ written d 0 (insideBelow S (m + 1)))
+pub inside-more : (S : Choice) (d : List ℕ) (m count : ℕ) (list : List ℕ)
+    → count < length d → S m ≡ true → count ≡ length (insideBelow S m) → list ≡ written d 0 (insideBelow S m)
+    → (count + 1 ≡ length (insideBelow S (m + 1))) × (set list count m ≡ written d 0 (insideBelow S (m + 1)))
 unfolding insideBelow
 inside-more S d m count list h e q f =
     let l = insideBelow S m in
     let z : count ≡ 0 + length l = omega arith in
     rw (add-one m, e) (omega (arith, length-append l (m ∷ [])), rw (f, z) (written-more d 0 l m (omega arith)))
 
-pub inside-same : (S : Choice) (d : List ℕ) (m count : ℕ) (list : List ℕ) → S m ≡ false → count ≡ length (insideBelow S m) → list ≡ written d 0 (insideBelow S m) → (count ≡ length (insideBelow S (m + 1))) × (list ≡ written d 0 (insideBelow S (m + 1)))
+pub inside-same : (S : Choice) (d : List ℕ) (m count : ℕ) (list : List ℕ)
+    → S m ≡ false → count ≡ length (insideBelow S m) → list ≡ written d 0 (insideBelow S m)
+    → (count ≡ length (insideBelow S (m + 1))) × (list ≡ written d 0 (insideBelow S (m + 1)))
 unfolding insideBelow
 inside-same S d m count list e q f = rw (add-one m, e, append-nil) (q, f)
 
@@ -48,7 +52,8 @@ down-few S position (suc m) =
 pub listed-none : (d l : List ℕ) → Listed l d l 0 d
 listed-none d l = record { done = []; is = written-none d 0; many = refl; rest = refl }
 
-pub listed-more : (whole d : List ℕ) (p : ℕ) (left : List ℕ) (count : ℕ) (list : List ℕ) → count < length d → Listed whole d (p ∷ left) count list → Listed whole d left (count + 1) (set list count p)
+pub listed-more : (whole d : List ℕ) (p : ℕ) (left : List ℕ) (count : ℕ) (list : List ℕ)
+    → count < length d → Listed whole d (p ∷ left) count list → Listed whole d left (count + 1) (set list count p)
 listed-more whole d p left count list h f =
     let z : count ≡ 0 + length (f .done) = omega (arith, f .many) in
     record {
@@ -58,7 +63,8 @@ listed-more whole d p left count list h f =
       rest = simp append-assoc (f .rest);
     }
 
-pub listed-whole : (whole d : List ℕ) (count : ℕ) (list : List ℕ) → Listed whole d [] count list → (count ≡ length whole) × (list ≡ written d 0 whole)
+pub listed-whole : (whole d : List ℕ) (count : ℕ) (list : List ℕ) → Listed whole d [] count list
+    → (count ≡ length whole) × (list ≡ written d 0 whole)
 listed-whole whole d count list f =
     let e : f .done ≡ whole = sym (append-nil (f .done)) ∙ f .rest in
     (f .many ∙ ap length e, f .is ∙ ap (written d 0) e)

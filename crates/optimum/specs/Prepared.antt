@@ -5,20 +5,21 @@ use Prim.Native.Nat.{ℕ, suc, _+_}
 use native.Mathlib.Omega.{arith}
 use Rattle.labeling.specs.Totals.{all}
 use Rattle.labeling.specs.Recurrence.{total}
-use Rattle.labeling.specs.Positions.{Arranged, AllAllowed}
-use Rattle.labeling.specs.Best.{oneEach}
+use Rattle.labeling.specs.Positions.{Arranged}
 use Rattle.format.specs.Sheet.{pointsOf}
 use Rattle.orders.specs.Arrays.{heightsOf, positionAt}
+use Rattle.orders.specs.Given.{weightOf, weight-some, permitted}
+use Rattle.orders.specs.Layout.{triangularField, tetrahedralField}
 use Rattle.optimum.specs.Packed.{Packed}
 use Rattle.orders.specs.BothOrders.{BothOrders}
-use Rattle.optimum.specs.SameHeights.{total-same, arranged-same, allowed-same}
+use Rattle.optimum.specs.SameHeights.{total-same, arranged-same}
 use Rattle.optimum.specs.Limits.{InOrder, Limited, kept-same, kept-position, kept-order}
 
--- WHAT THE PREPARATION GIVES: an array as the table asks for it, of the sheet's points in height order, each of weight 1 and allowed.
+-- WHAT THE PREPARATION GIVES: an array as the table asks for it, of the sheet's points in height order, with their
+-- weights and permissions.
 pub record Prepared (sheet s : List ℕ) : Type 0 where
   pub packed : Packed s
-  pub arranged : Arranged (pointsOf sheet) oneEach (heightsOf s) (positionAt s)
-  pub allowed : AllAllowed (heightsOf s)
+  pub arranged : Arranged (pointsOf sheet) (weightOf sheet) (permitted sheet) (heightsOf s) (positionAt s)
 
 pub in-order : {sheet s : List ℕ} → BothOrders sheet s → InOrder s
 in-order o = record { long = o .cells .long; few = o .few; sorted = o .sorted }
@@ -27,6 +28,9 @@ pub prepared : {sheet s r : List ℕ} → BothOrders sheet s → Limited s r →
 prepared {sheet} {s} {r} o m =
     let H = kept-same (m .kept) (o .few) in
     let q = kept-order (m .kept) (in-order o) in
+    let a =
+    arranged-same H (pointsOf sheet) (weightOf sheet) (permitted sheet) (positionAt s)
+    (positionAt r) (kept-position (m .kept)) (o .arranged) in
     record {
       packed = record {
         few = q .few;
@@ -37,12 +41,11 @@ prepared {sheet} {s} {r} o m =
         upper-rank =
             ap (λ x. heightsOf r .rank (suc x)) (H .n)
             ∙ (H .rank (suc (heightsOf s .n)) (omega (arith, o .few)) ∙ (o .upper-rank ∙ sym (H .n)));
-        tri-is = λ k l. m .kept .cell (204 + k) (λ a b. omega arith) ∙ o .cells .tri-is k l;
-        tet-is = λ k l. m .kept .cell (240 + k) (λ a b. omega arith) ∙ o .cells .tet-is k l;
-        heavy = λ i k. omega (arith, arranged-same H (pointsOf sheet) oneEach (positionAt s) (positionAt r) (kept-position (m .kept)) (o .arranged) .weight i k);
+        tri-is = λ k l. m .kept .cell (triangularField + k) (λ a b. omega arith) ∙ o .cells .tri-is k l;
+        tet-is = λ k l. m .kept .cell (tetrahedralField + k) (λ a b. omega arith) ∙ o .cells .tet-is k l;
+        heavy = λ i k. omega (arith, a .weight i k, weight-some sheet (positionAt r i));
         light =
             omega (arith, o .light, ap (total (heightsOf r) all) (H .n), total-same H (heightsOf s .n) (omega arith));
       };
-      arranged = arranged-same H (pointsOf sheet) oneEach (positionAt s) (positionAt r) (kept-position (m .kept)) (o .arranged);
-      allowed = allowed-same H (o .allowed);
+      arranged = a;
     }

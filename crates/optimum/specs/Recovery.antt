@@ -1,4 +1,4 @@
--- The marks that the recovery sets are the recovered choice's. Assumes nothing.
+-- The flags that the recovery sets are the recovered choice's. Assumes nothing.
 use mathlib.Core.Path.{_≡_, refl, sym, _∙_, ap}
 use mathlib.Core.Bool.{Bool, true, false, cond, _&&_, _||_}
 use mathlib.Core.List.{List}
@@ -8,16 +8,18 @@ use lib.Dec.{ltb, leb, eqb}
 use lib.ListN.{getD, length, set, length-set}
 use lib.Seq.{getD-set-same, getD-set-other}
 use borrow.Author.Tests.{ltb-true, ltb-false, eqb-true, lt-ltb, le-ltb, le-leb, lt-leb}
-use Rattle.labeling.specs.Tests.{not-both, decide, same, and-right, or-rest}
+use Rattle.labeling.specs.Decide.{not-both, decide, same, and-right, or-rest, dec-false, dec-map, dec-unique, false-of}
 use Rattle.labeling.specs.Recurrence.{Heights, between, reach, value, takesIn, recovered}
-use Rattle.labeling.specs.RecurrenceTests.{Between, dec-between, dec-false, dec-map, dec-unique, false-of, CanOut, recovered-skip, recovered-in, recovered-out}
+use Rattle.labeling.specs.RecurrenceTests.{Between, dec-between, CanOut, recovered-skip, recovered-in, recovered-out}
 use Rattle.labeling.specs.Recovered.{takes-out, value-down, recovered-down}
 use Rattle.orders.specs.Arrays.{heightsOf}
+use Rattle.orders.specs.Layout.{fieldCells}
 use Rattle.optimum.specs.Packed.{Packed}
-use Rattle.optimum.specs.Slabs.{limit, slabHas, slabValue, slabTakes, slabRecovered}
-use Rattle.optimum.specs.Table.{Memo, Ready, Opened, CutAt, Recoverable, insideMark, taken, markedTaken, Taking, Marked, MarkedDown, Blank, Solved}
-use Rattle.optimum.specs.Steps.{opened, ready-low, ready-high, limit-low, limit-high, limit-n, fitting-zero}
-use Rattle.optimum.specs.declared.table.State.{State}
+use Rattle.optimum.specs.Slabs.{openBelow, slabHas, slabValue, slabTakes, slabRecovered}
+use Rattle.optimum.specs.Table.{Memo, Ready, Opened, CutAt, Recoverable, insideFlag, taken}
+use Rattle.optimum.specs.Table.{flaggedTaken, Taking, Flagged, FlaggedDown, Blank, Solved}
+use Rattle.optimum.specs.Steps.{opened, ready-low, ready-high, open-below-low, open-below-high, open-below-n, fitting-zero}
+use Rattle.optimum.specs.declared.table.Slab.{Slab}
 
 -- THE CHOICE AND ITS MARKS
 
@@ -40,19 +42,22 @@ recovered-range H (suc t) a b q i e =
     let e′ = sym (recovered-out H t a b q i z m) ∙ e in
     decide (ltb i p)
     (λ y. let r = recovered-range H t a p q i (rw y at e′) in record { low = r .low; high = omega (arith, r .high, k .high) })
-    (λ y. let r = recovered-range H t p b (reach H a p q) i (and-right (ltb p i) _ (rw y at e′)) in record { low = omega (arith, r .low, k .low); high = r .high })))
+    (λ y.
+    let r = recovered-range H t p b (reach H a p q) i (and-right (ltb p i) _ (rw y at e′)) in
+    record { low = omega (arith, r .low, k .low); high = r .high })))
     (λ z. recovered-range H t a b q i (sym (recovered-skip H t a b q i z) ∙ e))
 
--- No point is open: nothing is marked.
-pub marked-zero : (H : Heights) (t : ℕ) (x : State) (m : List ℕ) → t ≡ 0 → Marked H t x m m
+-- No point is open: no flag is set.
+pub flagged-zero : (H : Heights) (t : ℕ) (x : Slab) (m : List ℕ) → t ≡ 0 → Flagged H t x m m
 unfolding recovered
-marked-zero H t x m e = rw e (record { same = refl; set = λ i l. refl })
+flagged-zero H t x m e = rw e (record { same = refl; set = λ i l. refl })
 
 -- The slab is cut at the point of rank t.
-marked-out : (H : Heights) (t : ℕ) (x : State) → slabHas x (H .atRank t) ≡ true → (m m₁ m₂ : List ℕ) → slabTakes H t x ≡ false
-    → Marked H t (record { lower = x .lower; upper = H .atRank t; reaching = x .reaching }) m m₁
-    → Marked H t (record { lower = H .atRank t; upper = x .upper; reaching = reach H (x .lower) (H .atRank t) (x .reaching) }) m₁ m₂ → Marked H (suc t) x m m₂
-marked-out H t x e m m₁ m₂ k y z = record {
+flagged-out : (H : Heights) (t : ℕ) (x : Slab) → slabHas x (H .atRank t) ≡ true → (m m₁ m₂ : List ℕ) → slabTakes H t x ≡ false
+    → Flagged H t (record { lower = x .lower; upper = H .atRank t; reaching = x .reaching }) m m₁
+    → Flagged H t (record { lower = H .atRank t; upper = x .upper; reaching = reach H (x .lower) (H .atRank t) (x .reaching) }) m₁ m₂
+    → Flagged H (suc t) x m m₂
+flagged-out H t x e m m₁ m₂ k y z = record {
   same = z .same ∙ y .same;
   set = λ i u. rw (recovered-out H t (x .lower) (x .upper) (x .reaching) i e k)
       (decide (ltb i p)
@@ -72,7 +77,8 @@ marked-out H t x e m m₁ m₂ k y z = record {
     p : ℕ
     p = H .atRank t
 
-    high-none : (i : ℕ) → (Between (H .atRank t) i (x .upper) → ⊥) → recovered H t (H .atRank t) (x .upper) (reach H (x .lower) (H .atRank t) (x .reaching)) i ≡ false
+    high-none : (i : ℕ) → (Between (H .atRank t) i (x .upper) → ⊥)
+        → recovered H t (H .atRank t) (x .upper) (reach H (x .lower) (H .atRank t) (x .reaching)) i ≡ false
     high-none i f = false-of _ (λ g. f (recovered-range H t (H .atRank t) (x .upper) (reach H (x .lower) (H .atRank t) (x .reaching)) i g))
 
     low-none : (i : ℕ) → (Between (x .lower) i (H .atRank t) → ⊥) → recovered H t (x .lower) (H .atRank t) (x .reaching) i ≡ false
@@ -80,21 +86,21 @@ marked-out H t x e m m₁ m₂ k y z = record {
 
 -- DOWN TO THE CUT
 
--- The mark of a point that is taken is set, and that of another isn't.
+-- The flag of a point that is taken is set, and that of another isn't.
 module _ (H : Heights) (k t i r : ℕ) (m : List ℕ) (e : r ≡ H .rank i) where
-  pub marked-low : r < k → m ≡ markedTaken H k t i m
-  unfolding markedTaken taken
-  marked-low l = sym (rw (lt-leb k (H .rank i) (omega arith)))
+  pub flagged-low : r < k → m ≡ flaggedTaken H k t i m
+  unfolding flaggedTaken taken
+  flagged-low l = sym (rw (lt-leb k (H .rank i) (omega arith)))
 
-  pub marked-high : k ≤ r → t ≤ r → m ≡ markedTaken H k t i m
-  unfolding markedTaken taken
-  marked-high l u = sym (rw (le-leb k (H .rank i) (omega arith), le-ltb (H .rank i) t (omega arith)))
+  pub flagged-high : k ≤ r → t ≤ r → m ≡ flaggedTaken H k t i m
+  unfolding flaggedTaken taken
+  flagged-high l u = sym (rw (le-leb k (H .rank i) (omega arith), le-ltb (H .rank i) t (omega arith)))
 
-  pub marked-taken : k ≤ r → r < t → set m i insideMark ≡ markedTaken H k t i m
-  unfolding markedTaken taken
-  marked-taken l u = sym (rw (le-leb k (H .rank i) (omega arith), lt-ltb (H .rank i) t (omega arith)))
+  pub flagged-taken : k ≤ r → r < t → set m i insideFlag ≡ flaggedTaken H k t i m
+  unfolding flaggedTaken taken
+  flagged-taken l u = sym (rw (le-leb k (H .rank i) (omega arith), lt-ltb (H .rank i) t (omega arith)))
 
-module _ {s : List ℕ} {x : State} {k : ℕ} (r : Ready s x) where
+module _ {s : List ℕ} {x : Slab} {k : ℕ} (r : Ready s x) where
   -- The loop begins above the lower end,
   pub taking-first : (m : List ℕ) → Taking (heightsOf s) x k (x .lower + 1) m m
   taking-first m = record {
@@ -106,22 +112,24 @@ module _ {s : List ℕ} {x : State} {k : ℕ} (r : Ready s x) where
 
   module _ {i : ℕ} {m m₁ : List ℕ} (y : Taking (heightsOf s) x k i m m₁) where
     -- takes the next point,
-    pub taking-next : (t : ℕ) (m₂ : List ℕ) → i < x .upper → length m ≡ 34 → t ≡ limit (heightsOf s) x → m₂ ≡ markedTaken (heightsOf s) k t i m₁ → Taking (heightsOf s) x k (i + 1) m m₂
-    unfolding markedTaken
+    pub taking-next : (t : ℕ) (m₂ : List ℕ) → i < x .upper → length m ≡ fieldCells → t ≡ openBelow (heightsOf s) x
+        → m₂ ≡ flaggedTaken (heightsOf s) k t i m₁ → Taking (heightsOf s) x k (i + 1) m m₂
+    unfolding flaggedTaken
     taking-next t m₂ l n f e =
         let long : i < length m₁ = omega (arith, y .same, r .proper .upper, r .packed .few) in
-        let here : between (x .lower) i (i + 1) ≡ true = dec-between (x .lower) i (i + 1) .of (record { low = y .low; high = omega arith }) in
+        let here : between (x .lower) i (i + 1) ≡ true =
+        dec-between (x .lower) i (i + 1) .of (record { low = y .low; high = omega arith }) in
         let there : between (x .lower) i i ≡ false = dec-false (dec-between (x .lower) i i) (λ b. omega (arith, b .high)) in
-        decide (taken (heightsOf s) k (limit (heightsOf s) x) i)
+        decide (taken (heightsOf s) k (openBelow (heightsOf s) x) i)
         (λ z.
-        let e′ : m₂ ≡ set m₁ i insideMark = rw (f, z) at e in
+        let e′ : m₂ ≡ set m₁ i insideFlag = rw (f, z) at e in
         record {
           low = omega (arith, y .low);
           high = omega arith;
-          same = ap length e′ ∙ (length-set m₁ i insideMark ∙ y .same);
+          same = ap length e′ ∙ (length-set m₁ i insideFlag ∙ y .same);
           set = λ j. same j i
-              (λ v. rw (v, z, here, e′) (getD-set-same m₁ i insideMark 0 long))
-              (λ ne. rw (e′, getD-set-other m₁ i j insideMark 0 ne, further j ne) (y .set j));
+              (λ v. rw (v, z, here, e′) (getD-set-same m₁ i insideFlag 0 long))
+              (λ ne. rw (e′, getD-set-other m₁ i j insideFlag 0 ne, further j ne) (y .set j));
         })
         (λ z.
         let e′ : m₂ ≡ m₁ = rw (f, z) at e in
@@ -135,36 +143,47 @@ module _ {s : List ℕ} {x : State} {k : ℕ} (r : Ready s x) where
         })
       where
         further : (j : ℕ) → (j ≡ i → ⊥) → between (x .lower) j (i + 1) ≡ between (x .lower) j i
-        further j ne = dec-unique (dec-between (x .lower) j (i + 1)) (dec-map (λ b. record { low = b .low; high = omega (arith, b .high) }) (λ b. record { low = b .low; high = omega (arith, b .high) }) (dec-between (x .lower) j i))
+        further j ne =
+            dec-unique (dec-between (x .lower) j (i + 1))
+            (dec-map (λ b. record { low = b .low; high = omega (arith, b .high) })
+            (λ b. record { low = b .low; high = omega (arith, b .high) }) (dec-between (x .lower) j i))
 
     -- and ends at the upper end.
-    pub taking-last : x .upper ≤ i → CutAt (heightsOf s) x k → MarkedDown (heightsOf s) x k m m₁
+    pub taking-last : x .upper ≤ i → CutAt (heightsOf s) x k → FlaggedDown (heightsOf s) x k m m₁
     unfolding taken
     taking-last l c =
         let H = heightsOf s in
-        let t = limit H x in
+        let t = openBelow H x in
         let e : i ≡ x .upper = omega (arith, y .high) in
         record {
           same = y .same;
           whole = λ m″ f. record {
             same = f .same ∙ y .same;
             set = λ j u. same j 0
-                (λ v. rw v (f .set 0 (omega arith) ∙ rw (y .set 0, dec-false (dec-between (x .lower) 0 i) (λ g. omega (arith, g .low)), nothing k, nothing t) refl))
-                (λ ne. f .set j u ∙ (ap (cond (slabRecovered H k x j) insideMark) (y .set j) ∙ (rw e (joined (slabRecovered H k x j) (slabHas x j && (leb k (H .rank j) && ltb (H .rank j) t)) (getD m j 0))
-                ∙ ap (λ (g : Bool). cond g insideMark (getD m j 0)) (sym (recovered-down (r .packed .sorted) k (x .lower) (x .upper) (x .reaching) (record { low = omega arith; high = u }) t (c .below) (limit-n r) (c .above))))));
+                (λ v. rw v (f .set 0 (omega arith)
+                ∙ rw (y .set 0, dec-false (dec-between (x .lower) 0 i) (λ g. omega (arith, g .low)), nothing k, nothing t) refl))
+                (λ ne. f .set j u
+                ∙ (ap (cond (slabRecovered H k x j) insideFlag) (y .set j)
+                ∙ (rw e (joined (slabRecovered H k x j) (slabHas x j && (leb k (H .rank j) && ltb (H .rank j) t)) (getD m j 0))
+                ∙ ap (λ (g : Bool). cond g insideFlag (getD m j 0))
+                (sym (recovered-down (r .packed .sorted) k (x .lower) (x .upper) (x .reaching)
+                (record { low = omega arith; high = u }) t (c .below) (open-below-n r) (c .above))))));
           };
         }
       where
         nothing : (t : ℕ) → slabRecovered (heightsOf s) t x 0 ≡ false
-        nothing t = false-of (slabRecovered (heightsOf s) t x 0) (λ f. let g = recovered-range (heightsOf s) t (x .lower) (x .upper) (x .reaching) 0 f in omega (arith, g .low))
+        nothing t =
+            false-of (slabRecovered (heightsOf s) t x 0)
+            (λ f. let g = recovered-range (heightsOf s) t (x .lower) (x .upper) (x .reaching) 0 f in omega (arith, g .low))
 
-        joined : (u v : Bool) (d : ℕ) → cond u insideMark (cond v insideMark d) ≡ cond (u || v) insideMark d
+        joined : (u v : Bool) (d : ℕ) → cond u insideFlag (cond v insideFlag d) ≡ cond (u || v) insideFlag d
         joined true v d = refl
         joined false v d = refl
 
 -- A CUT
 
-module _ {s table : List ℕ} {x : State} {k p : ℕ} (a : Recoverable s table x) (c : CutAt (heightsOf s) x k) (ne : k ≡ 0 → ⊥) (e : p ≡ heightsOf s .atRank (k - 1)) where
+module _ {s table : List ℕ} {x : Slab} {k p : ℕ} (a : Recoverable s table x) (c : CutAt (heightsOf s) x k)
+    (ne : k ≡ 0 → ⊥) (e : p ≡ heightsOf s .atRank (k - 1)) where
   prev : k ≡ suc (k - 1)
   prev = omega arith
 
@@ -174,60 +193,73 @@ module _ {s table : List ℕ} {x : State} {k p : ℕ} (a : Recoverable s table x
 
   -- Both parts have a choice, because the slab has.
   choices : CanOut (heightsOf s) (k - 1) (x .lower) (x .upper) (x .reaching)
-  choices = takes-out (rw prev at (value-down (limit (heightsOf s) x) (c .below) (c .above) (a .some))) (c .within (k - 1) prev) (c .out (k - 1) prev) .0
+  choices =
+      takes-out (rw prev at (value-down (openBelow (heightsOf s) x) (c .below) (c .above) (a .some)))
+      (c .within (k - 1) prev) (c .out (k - 1) prev) .0
 
   pub cut-low : Recoverable s table (record { lower = x .lower; upper = p; reaching = x .reaching })
   cut-low = record {
     asked = record { ready = ready-low (cut-opened .0); memo = a .asked .memo };
-    some = rw (limit-low (cut-opened .0), cut-opened .1, e) (choices .low);
+    some = rw (open-below-low (cut-opened .0), cut-opened .1, e) (choices .low);
   }
 
-  pub cut-high : {table′ : List ℕ} → Memo (heightsOf s) table′ → (over : ℕ) → over ≡ reach (heightsOf s) (x .lower) p (x .reaching) → Recoverable s table′ (record { lower = p; upper = x .upper; reaching = over })
+  pub cut-high : {table′ : List ℕ} → Memo (heightsOf s) table′ → (over : ℕ) → over ≡ reach (heightsOf s) (x .lower) p (x .reaching)
+      → Recoverable s table′ (record { lower = p; upper = x .upper; reaching = over })
   cut-high m over f = record {
     asked = record { ready = ready-high (cut-opened .0) over f; memo = m };
-    some = rw (limit-high (cut-opened .0) over, cut-opened .1, f, e) (choices .high);
+    some = rw (open-below-high (cut-opened .0) over, cut-opened .1, f, e) (choices .high);
   }
 
-  -- Both parts are marked: so is the slab, below its cut.
-  pub cut-marked : (m m₁ m₂ : List ℕ) (over : ℕ) → over ≡ reach (heightsOf s) (x .lower) p (x .reaching)
-      → Marked (heightsOf s) (limit (heightsOf s) (record { lower = x .lower; upper = p; reaching = x .reaching })) (record { lower = x .lower; upper = p; reaching = x .reaching }) m m₁
-      → Marked (heightsOf s) (limit (heightsOf s) (record { lower = p; upper = x .upper; reaching = over })) (record { lower = p; upper = x .upper; reaching = over }) m₁ m₂
-      → Marked (heightsOf s) k x m m₂
-  cut-marked m m₁ m₂ over f u v =
+  -- The flags of both parts are set: so are the slab's, below its cut.
+  pub cut-flagged : (m m₁ m₂ : List ℕ) (over : ℕ) → over ≡ reach (heightsOf s) (x .lower) p (x .reaching)
+      → Flagged (heightsOf s) (openBelow (heightsOf s) (record { lower = x .lower; upper = p; reaching = x .reaching }))
+      (record { lower = x .lower; upper = p; reaching = x .reaching }) m m₁
+      → Flagged (heightsOf s) (openBelow (heightsOf s) (record { lower = p; upper = x .upper; reaching = over }))
+      (record { lower = p; upper = x .upper; reaching = over }) m₁ m₂
+      → Flagged (heightsOf s) k x m m₂
+  cut-flagged m m₁ m₂ over f u v =
       let H = heightsOf s in
       let r : H .rank p ≡ k - 1 = cut-opened .1 in
-      let u′ : Marked H (k - 1) (record { lower = x .lower; upper = H .atRank (k - 1); reaching = x .reaching }) m m₁ = rw (limit-low (cut-opened .0), r, e) at u in
-      let v′ : Marked H (k - 1) (record { lower = H .atRank (k - 1); upper = x .upper; reaching = reach H (x .lower) (H .atRank (k - 1)) (x .reaching) }) m₁ m₂ = rw (limit-high (cut-opened .0) over, r, f, e) at v in
-      rw (← prev) at (marked-out H (k - 1) x (c .within (k - 1) prev) m m₁ m₂ (c .out (k - 1) prev) u′ v′)
+      let u′ : Flagged H (k - 1) (record { lower = x .lower; upper = H .atRank (k - 1); reaching = x .reaching }) m m₁ =
+      rw (open-below-low (cut-opened .0), r, e) at u in
+      let v′ : Flagged H (k - 1)
+      (record { lower = H .atRank (k - 1); upper = x .upper; reaching = reach H (x .lower) (H .atRank (k - 1)) (x .reaching) }) m₁ m₂ =
+      rw (open-below-high (cut-opened .0) over, r, f, e) at v in
+      rw (← prev) at (flagged-out H (k - 1) x (c .within (k - 1) prev) m m₁ m₂ (c .out (k - 1) prev) u′ v′)
 
 -- ALL POINTS
 
 module _ {s : List ℕ} (k : Packed s) (n : ℕ) (e : n ≡ heightsOf s .n) where
-  abbrev allPoints : State
+  abbrev allPoints : Slab
   allPoints = record { lower = 0; upper = n + 1; reaching = 0 }
 
   end : n + 1 ≡ suc (heightsOf s .n)
   end = omega arith
 
-  all-limit : limit (heightsOf s) allPoints ≡ heightsOf s .n
-  unfolding limit
-  all-limit = rw end (omega (arith, k .lower-rank, k .upper-rank))
+  all-open-below : openBelow (heightsOf s) allPoints ≡ heightsOf s .n
+  unfolding openBelow
+  all-open-below = rw end (omega (arith, k .lower-rank, k .upper-rank))
 
   pub all-ready : Ready s allPoints
   all-ready = record { packed = k; proper = record { order = omega arith; upper = omega arith; fits = fitting-zero (heightsOf s) 0 } }
 
   all-value : (v : ℕ) → v ≡ slabValue (heightsOf s) allPoints → v ≡ value (heightsOf s) (heightsOf s .n) 0 (suc (heightsOf s .n)) 0
-  all-value v f = f ∙ rw (all-limit, end) refl
+  all-value v f = f ∙ rw (all-open-below, end) refl
 
   -- There is no choice,
   pub all-none : (m : List ℕ) (v : ℕ) → v ≡ slabValue (heightsOf s) allPoints → v ≡ 0 → Solved (heightsOf s) m 0
-  all-none m v f g = record { best = sym g ∙ all-value v f; marks = λ l. absurd (omega arith) }
+  all-none m v f g = record { best = sym g ∙ all-value v f; flagged = λ l. absurd (omega arith) }
 
-  -- or the best one is marked.
-  pub all-solved : (m m′ : List ℕ) (v : ℕ) → Blank m → Marked (heightsOf s) (limit (heightsOf s) allPoints) allPoints m m′ → v ≡ slabValue (heightsOf s) allPoints → Solved (heightsOf s) m′ v
+  -- or the flags are those of the best one.
+  pub all-solved : (m m′ : List ℕ) (v : ℕ) → Blank m → Flagged (heightsOf s) (openBelow (heightsOf s) allPoints) allPoints m m′
+      → v ≡ slabValue (heightsOf s) allPoints → Solved (heightsOf s) m′ v
   all-solved m m′ v z y f =
-      let y′ : Marked (heightsOf s) (heightsOf s .n) (record { lower = 0; upper = suc (heightsOf s .n); reaching = 0 }) m m′ = rw (all-limit, end) at y in
+      let y′ : Flagged (heightsOf s) (heightsOf s .n) (record { lower = 0; upper = suc (heightsOf s .n); reaching = 0 }) m m′ =
+      rw (all-open-below, end) at y in
       record {
         best = all-value v f;
-        marks = λ _ j p. y′ .set j (p .high) ∙ ap (cond (recovered (heightsOf s) (heightsOf s .n) 0 (suc (heightsOf s .n)) 0 j) insideMark) (z .zero j (omega (arith, p .high, k .few)));
+        flagged = λ _ j p.
+            y′ .set j (p .high)
+            ∙ ap (cond (recovered (heightsOf s) (heightsOf s .n) 0 (suc (heightsOf s .n)) 0 j) insideFlag)
+            (z .zero j (omega (arith, p .high, k .few)));
       }

@@ -8,7 +8,8 @@ use Rattle.labeling.specs.Totals.{all}
 use Rattle.labeling.specs.Recurrence.{Heights, Point, Sorted, overlaps, reachesOver, greatest, total}
 use Rattle.labeling.specs.RecurrenceTests.{greatest-same}
 use Rattle.labeling.specs.Comparisons.{least, overlapsAbove, highOf, topOf}
-use Rattle.labeling.specs.Positions.{Arranged, AllAllowed}
+use Rattle.labeling.specs.Positions.{Arranged}
+use Rattle.orders.specs.Layout.{fieldCells}
 
 -- G has the same points as H, of which there are few, and the same ranks of the boundaries.
 pub record SameHeights (H G : Heights) : Type 0 where
@@ -16,12 +17,12 @@ pub record SameHeights (H G : Heights) : Type 0 where
   pub n : G .n ≡ H .n
   pub w : G .w ≡ H .w
   pub h : G .h ≡ H .h
-  pub column : (i : ℕ) → i < 34 → G .column i ≡ H .column i
-  pub row : (i : ℕ) → i < 34 → G .row i ≡ H .row i
-  pub weight : (i : ℕ) → i < 34 → G .weight i ≡ H .weight i
-  pub allowed : (i : ℕ) → i < 34 → G .allowed i ≡ H .allowed i
-  pub atRank : (t : ℕ) → t < 34 → G .atRank t ≡ H .atRank t
-  pub rank : (i : ℕ) → i < 34 → G .rank i ≡ H .rank i
+  pub column : (i : ℕ) → i < fieldCells → G .column i ≡ H .column i
+  pub row : (i : ℕ) → i < fieldCells → G .row i ≡ H .row i
+  pub weight : (i : ℕ) → i < fieldCells → G .weight i ≡ H .weight i
+  pub allowed : (i : ℕ) → i < fieldCells → G .allowed i ≡ H .allowed i
+  pub atRank : (t : ℕ) → t < fieldCells → G .atRank t ≡ H .atRank t
+  pub rank : (i : ℕ) → i < fieldCells → G .rank i ≡ H .rank i
 
 -- A test that gives the same of 1 to m has the same least.
 least-same : (f g : ℕ → Bool) (d m : ℕ) → ((i : ℕ) → 1 ≤ i → i ≤ m → f i ≡ g i) → least f d m ≡ least g d m
@@ -39,10 +40,10 @@ module _ {H G : Heights} (S : SameHeights H G) where
   pub there : (i : ℕ) → Point H i → Point G i
   there i p = record { low = p .low; high = omega (arith, p .high, S .n) }
 
-  small : (i : ℕ) → i ≤ H .n → i < 34
+  small : (i : ℕ) → i ≤ H .n → i < fieldCells
   small i l = omega (arith, S .few)
 
-  inside : (i : ℕ) → Point G i → i < 34
+  inside : (i : ℕ) → Point G i → i < fieldCells
   inside i p = omega (arith, p .high, S .n, S .few)
 
   -- THE ORDERS
@@ -52,11 +53,26 @@ module _ {H G : Heights} (S : SameHeights H G) where
     h-pos = omega (arith, S .h, L .h-pos);
     rows = λ i j p q l. omega (arith, S .row i (inside i p), S .row j (inside j q), L .rows i j (back i p) (back j q) l);
     beside = λ i j p q l e.
-        omega (arith, S .column i (inside i p), S .column j (inside j q), L .beside i j (back i p) (back j q) l (omega (arith, S .row i (inside i p), S .row j (inside j q))));
+        omega (
+          arith,
+          S .column i (inside i p),
+          S .column j (inside j q),
+          L .beside i j (back i p) (back j q) l (omega (arith, S .row i (inside i p), S .row j (inside j q))),
+        );
     columns = λ i j p q l.
-        omega (arith, S .column i (inside i p), S .column j (inside j q), L .columns i j (back i p) (back j q) (omega (arith, S .rank i (inside i p), S .rank j (inside j q))));
+        omega (
+          arith,
+          S .column i (inside i p),
+          S .column j (inside j q),
+          L .columns i j (back i p) (back j q) (omega (arith, S .rank i (inside i p), S .rank j (inside j q))),
+        );
     ties = λ i j p q l m.
-        omega (arith, S .column i (inside i p), S .column j (inside j q), L .ties i j (back i p) (back j q) (omega (arith, S .rank i (inside i p), S .rank j (inside j q))) m);
+        omega (
+          arith,
+          S .column i (inside i p),
+          S .column j (inside j q),
+          L .ties i j (back i p) (back j q) (omega (arith, S .rank i (inside i p), S .rank j (inside j q))) m,
+        );
     atRank-point = λ t l.
         let l′ : t < H .n = omega (arith, S .n) in
         rw (S .atRank t (small t (omega arith))) (there (H .atRank t) (L .atRank-point t l′));
@@ -72,11 +88,11 @@ module _ {H G : Heights} (S : SameHeights H G) where
   }
 
   -- THE TESTS
-  overlaps-same : (i j : ℕ) → i < 34 → j < 34 → overlaps G i j ≡ overlaps H i j
+  overlaps-same : (i j : ℕ) → i < fieldCells → j < fieldCells → overlaps G i j ≡ overlaps H i j
   unfolding overlaps
   overlaps-same i j l m = rw (S .column i l, S .column j m, S .row i l, S .row j m, S .w, S .h)
 
-  reaches-same : (p i : ℕ) → p < 34 → i < 34 → reachesOver G p i ≡ reachesOver H p i
+  reaches-same : (p i : ℕ) → p < fieldCells → i < fieldCells → reachesOver G p i ≡ reachesOver H p i
   unfolding reachesOver
   reaches-same p i l m = rw (S .column i m, S .column p l, S .row i m, S .row p l, S .w, S .h)
 
@@ -100,8 +116,9 @@ module _ {H G : Heights} (S : SameHeights H G) where
   total-same zero l = refl
   total-same (suc m) l = rw (S .weight (suc m) (small (suc m) l), total-same m (omega arith))
 
-  pub arranged-same : (P : Points) (v position place : ℕ → ℕ) → ((i : ℕ) → i < 34 → place i ≡ position i) → Arranged P v H position → Arranged P v G place
-  arranged-same P v position place e A = record {
+  pub arranged-same : (P : Points) (v : ℕ → ℕ) (f : ℕ → Bool) (position place : ℕ → ℕ)
+      → ((i : ℕ) → i < fieldCells → place i ≡ position i) → Arranged P v f H position → Arranged P v f G place
+  arranged-same P v f position place e A = record {
     n = S .n ∙ A .n;
     w = S .w ∙ A .w;
     h = S .h ∙ A .h;
@@ -111,7 +128,5 @@ module _ {H G : Heights} (S : SameHeights H G) where
     column = λ i p. S .column i (inside i p) ∙ (A .column i (back i p) ∙ ap (P .column) (sym (e i (inside i p))));
     row = λ i p. S .row i (inside i p) ∙ (A .row i (back i p) ∙ ap (P .row) (sym (e i (inside i p))));
     weight = λ i p. S .weight i (inside i p) ∙ (A .weight i (back i p) ∙ ap v (sym (e i (inside i p))));
+    allowed = λ i p. S .allowed i (inside i p) ∙ (A .allowed i (back i p) ∙ ap f (sym (e i (inside i p))));
   }
-
-  pub allowed-same : AllAllowed H → AllAllowed G
-  allowed-same a = record { allowed = λ i p. S .allowed i (inside i p) ∙ a .allowed i (back i p) }

@@ -1,6 +1,6 @@
--- Marks by position, and the outside positions in height order. Assumes nothing.
+-- A choice by position, and the outside positions in height order. Assumes nothing.
 use mathlib.Core.Path.{_≡_}
-use mathlib.Core.Bool.{cond}
+use mathlib.Core.Bool.{Bool, cond}
 use mathlib.Core.List.{List, [], _∷_, _++_}
 use Prim.Native.Nat.{ℕ, zero, suc, _≤_, _<_}
 use lib.Dec.{eqb}
@@ -12,9 +12,9 @@ use Rattle.orders.specs.Arrays.{heightsOf, positionAt}
 use Rattle.format.specs.Written.{written}
 use native.Mathlib.Omega.{arith}
 
--- The choice that marks by position stand for: 1 is inside.
-abbrev pub marked : List ℕ → Choice
-marked l p = eqb (getD l p 0) 1
+-- The choice that an array by position holds: 1 is inside.
+abbrev pub flagged : List ℕ → Choice
+flagged l p = eqb (getD l p 0) 1
 
 -- The array has few points, and each has a position of its own that is below their number.
 pub record Numbered (heights : List ℕ) : Type 0 where
@@ -23,7 +23,8 @@ pub record Numbered (heights : List ℕ) : Type 0 where
   pub once : (i j : ℕ) → Point (heightsOf heights) i → Point (heightsOf heights) j → positionAt heights i ≡ positionAt heights j → i ≡ j
 
 -- few points in height order have positions of their own
-pub numbered : {P : Points} {v : ℕ → ℕ} (heights : List ℕ) → P .n ≤ 32 → Arranged P v (heightsOf heights) (positionAt heights) → Numbered heights
+pub numbered : {P : Points} {v : ℕ → ℕ} {f : ℕ → Bool} (heights : List ℕ)
+    → P .n ≤ 32 → Arranged P v f (heightsOf heights) (positionAt heights) → Numbered heights
 numbered heights few A = record {
   few = omega (arith, A .n, few);
   below = λ i p. omega (arith, A .n, A .below i p);
@@ -36,8 +37,8 @@ outsideDown S position zero = []
 outsideDown S position (suc i) = cond (S (position (suc i))) (outsideDown S position i) (position (suc i) ∷ outsideDown S position i)
 
 -- The outside positions of the whole array, in height order downwards.
-abbrev pub outsidePositions : (heights marks : List ℕ) → List ℕ
-outsidePositions heights marks = outsideDown (marked marks) (positionAt heights) (heightsOf heights .n)
+abbrev pub outsidePositions : (heights choice : List ℕ) → List ℕ
+outsidePositions heights choice = outsideDown (flagged choice) (positionAt heights) (heightsOf heights .n)
 
 -- The outside positions listed so far. Of the positions `whole`, `done` are written to the start of d, which makes it `list`; they are
 -- `count`; the positions `left` are still to come.

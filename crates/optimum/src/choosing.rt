@@ -10,24 +10,27 @@ ghost use Rattle.optimum.specs.Table.{Room, Blank, Solved};
 ghost use Rattle.optimum.specs.Split.{Numbered};
 ghost use Rattle.optimum.specs.Choosing.{BestSplit, nothingChosen};
 ghost use Rattle.optimum.specs.Chosen.{TwoLists};
+ghost use Rattle.orders.specs.Layout.{fieldCells};
 use crate::BestChoice;
 use crate::limits::write_limits;
+use crate::lists::Flags;
 use crate::lists::by_position;
 use crate::lists::list_inside;
 use crate::lists::list_outside;
 use crate::lists::zeros;
 use crate::points::point_count;
 use crate::recovery::slab;
-use crate::table::State;
+use crate::table::Slab;
 use crate::table::clear_notes;
 use crate::values::value_of;
 use orders::PointArray;
+use orders::layout::FIELD_CELLS;
 
-// No point is marked yet.
-fn none_marked() -> [u8; 34]
-    ensures { λ r. ⌜ r ≡ replicate 34 0 ⌝ }
+// No point has its flag set yet.
+fn none_flagged() -> Flags
+    ensures { λ r. ⌜ r ≡ replicate fieldCells 0 ⌝ }
 {
-    [0; 34]
+    [0; FIELD_CELLS]
 }
 
 // Every number becomes 0.
@@ -41,12 +44,12 @@ fn clear(workspace: &mut [u16])
     }
 }
 
-// The answer where making is refused.
-pub(crate) fn nothing_chosen(number: u8) -> BestChoice
-    ensures { λ r. ⌜ r ≡ nothingChosen number ⌝ }
+// The answer where a question is answered no.
+pub(crate) fn nothing_chosen(no: u8) -> BestChoice
+    ensures { λ r. ⌜ r ≡ nothingChosen no ⌝ }
 {
     BestChoice {
-        number,
+        no,
         inside: zeros(),
         inside_count: 0,
         outside: zeros(),
@@ -54,17 +57,17 @@ pub(crate) fn nothing_chosen(number: u8) -> BestChoice
     }
 }
 
-// The two lists of the choice that the marks by position stand for, of n points.
-fn two_lists(n: u8, heights: &PointArray, marks: &[u8; 32]) -> BestChoice
+// The two lists of a choice of n points, by position.
+fn two_lists(n: u8, heights: &PointArray, choice: &[u8; 32]) -> BestChoice
     requires { ⌜ (n ≤ 32) × Numbered (now heights) ⌝ }
-    ensures { λ r. ⌜ TwoLists n (now (heights .entry)) (now (marks .entry)) r ⌝ }
+    ensures { λ r. ⌜ TwoLists n (now (heights .entry)) (now (choice .entry)) r ⌝ }
 {
     let mut inside = zeros();
-    let inside_count = list_inside(marks, n, &mut inside) as u8;
+    let inside_count = list_inside(choice, n, &mut inside) as u8;
     let mut outside = zeros();
-    let outside_count = list_outside(heights, marks, &mut outside) as u8;
+    let outside_count = list_outside(heights, choice, &mut outside) as u8;
     BestChoice {
-        number: 0,
+        no: 0,
         inside,
         inside_count,
         outside,
@@ -72,13 +75,15 @@ fn two_lists(n: u8, heights: &PointArray, marks: &[u8; 32]) -> BestChoice
     }
 }
 
-// Marks the points of a best choice: one more than its weight, or 0 where no choice is without conflicts. The table is in the workspace.
-fn solve(heights: &PointArray, workspace: &mut [u16], mark: &mut [u8; 34]) -> u64
-    requires { ⌜ Packed (now heights) × Room (now workspace) × Blank (now mark) ⌝ }
-    ensures { λ r. ⌜ Solved (heightsOf (now (heights .entry))) (now (mark .exit)) r × (length (now (mark .exit)) ≡ 34) × (length (now (workspace .exit)) ≡ length (now (workspace .entry))) ⌝ }
+// Sets the flags of the inside points of a best choice, and gives one more than its weight, or 0 where no choice is without conflicts. The
+// table is in the workspace.
+fn solve(heights: &PointArray, workspace: &mut [u16], flags: &mut Flags) -> u64
+    requires { ⌜ Packed (now heights) × Room (now workspace) × Blank (now flags) ⌝ }
+    ensures { λ r. ⌜ Solved (heightsOf (now (heights .entry))) (now (flags .exit)) r
+        × (length (now (flags .exit)) ≡ fieldCells) × (length (now (workspace .exit)) ≡ length (now (workspace .entry))) ⌝ }
 {
     clear_notes(heights, workspace);
-    let all = State {
+    let all = Slab {
         lower: 0,
         upper: point_count(heights) + 1,
         reaching: 0,
@@ -87,20 +92,21 @@ fn solve(heights: &PointArray, workspace: &mut [u16], mark: &mut [u8; 34]) -> u6
     if best == 0 {
         return 0;
     }
-    slab(heights, workspace, mark, all);
+    slab(heights, workspace, flags, all);
     best
 }
 
 // A best choice of an accepted sheet, whose points are in order. The workspace is left zero.
 pub(crate) fn chosen(sheet: &[u8], points: PointArray, workspace: &mut [u16]) -> BestChoice
     requires { ⌜ (sheetNo (now sheet) ≡ 0) × BothOrders (now sheet) points × Room (now workspace) ⌝ }
-    ensures { λ r. ⌜ (r .number ≡ 0) × BestSplit (now (sheet .entry)) r × (now (workspace .exit) ≡ replicate (length (now (workspace .entry))) 0) ⌝ }
+    ensures { λ r. ⌜ (r .no ≡ 0) × BestSplit (now (sheet .entry)) r
+        × (now (workspace .exit) ≡ replicate (length (now (workspace .entry))) 0) ⌝ }
 {
     let mut heights = points;
     write_limits(&mut heights);
-    let mut mark = none_marked();
-    solve(&heights, workspace, &mut mark);
+    let mut flags = none_flagged();
+    solve(&heights, workspace, &mut flags);
     clear(workspace);
-    let marks = by_position(&heights, &mark);
-    two_lists(format::point_count(sheet), &heights, &marks)
+    let choice = by_position(&heights, &flags);
+    two_lists(format::point_count(sheet), &heights, &choice)
 }

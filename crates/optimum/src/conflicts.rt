@@ -1,10 +1,12 @@
 // Which labels overlap, and which points may be inside: the tests of the recurrence, as comparisons of numbers.
 ghost use mathlib.Core.Path.{_≡_};
 ghost use Prim.Native.Nat.{_+_, _<_, _≤_};
-ghost use Rattle.labeling.specs.Recurrence.{Point, overlaps, reachesOver, reach, good, clear};
+ghost use Rattle.labeling.specs.Recurrence.{Point, overlaps, reachesOver, reach, mayBeInside, rowsDiffer};
 ghost use Rattle.orders.specs.Arrays.{heightsOf};
 ghost use Rattle.optimum.specs.Packed.{Packed};
-ghost use Rattle.optimum.specs.Conflicts.{near, endsBelow, Candidate};
+ghost use Rattle.format.specs.Stretches.{stretchesOverlap};
+ghost use Rattle.optimum.specs.Conflicts.{endsBelow, Candidate};
+ghost use Rattle.orders.specs.Layout.{fieldCells};
 use crate::points::allowed_at;
 use crate::points::column_at;
 use crate::points::high_at;
@@ -13,13 +15,13 @@ use crate::points::label_width;
 use crate::points::point_count;
 use crate::points::row_at;
 use crate::points::top_at;
-use crate::table::State;
+use crate::table::Slab;
 use orders::PointArray;
 
 // Two stretches of length d, from x and from y on, share a place.
 fn stretches_overlap(x: usize, y: usize, d: usize) -> bool
     requires { ⌜ (x < 65536) × (y < 65536) × (d < 65536) ⌝ }
-    ensures { λ r. ⌜ r ≡ near x y d ⌝ }
+    ensures { λ r. ⌜ r ≡ stretchesOverlap x y d ⌝ }
 {
     if x >= y + d {
         return false;
@@ -28,8 +30,8 @@ fn stretches_overlap(x: usize, y: usize, d: usize) -> bool
 }
 
 // The labels of i and j share a pixel.
-pub(crate) fn labels_overlap(heights: &PointArray, i: usize, j: usize) -> bool
-    requires { ⌜ (i < 34) × (j < 34) ⌝ }
+pub(crate) fn overlaps(heights: &PointArray, i: usize, j: usize) -> bool
+    requires { ⌜ (i < fieldCells) × (j < fieldCells) ⌝ }
     ensures { λ r. ⌜ r ≡ overlaps (heightsOf (now (heights .entry))) i j ⌝ }
 {
     if !stretches_overlap(
@@ -48,7 +50,7 @@ pub(crate) fn labels_overlap(heights: &PointArray, i: usize, j: usize) -> bool
 
 // The label of the point i, which isn't above p, reaches over p's row, on the right of p.
 pub(crate) fn reaches_over(heights: &PointArray, p: usize, i: usize) -> bool
-    requires { ⌜ (1 ≤ i) × (i ≤ p) × (p < 34) ⌝ }
+    requires { ⌜ (1 ≤ i) × (i ≤ p) × (p < fieldCells) ⌝ }
     ensures { λ r. ⌜ r ≡ reachesOver (heightsOf (now (heights .entry))) p i ⌝ }
 {
     if row_at(heights, p) >= row_at(heights, i) + label_height(heights) {
@@ -61,26 +63,26 @@ pub(crate) fn reaches_over(heights: &PointArray, p: usize, i: usize) -> bool
 }
 
 // The label that reaches over p, in the upper part of a slab that is cut at p: its point, or 0.
-pub(crate) fn reaching_over(heights: &PointArray, state: State, p: usize) -> usize
-    requires { ⌜ Packed (now heights) × Point (heightsOf (now heights)) p × (state .reaching ≤ state .lower) × (state .lower < p) ⌝ }
-    ensures { λ r. ⌜ r ≡ reach (heightsOf (now (heights .entry))) (state .lower) p (state .reaching) ⌝ }
+pub(crate) fn reach(heights: &PointArray, slab: Slab, p: usize) -> usize
+    requires { ⌜ Packed (now heights) × Point (heightsOf (now heights)) p × (slab .reaching ≤ slab .lower) × (slab .lower < p) ⌝ }
+    ensures { λ r. ⌜ r ≡ reach (heightsOf (now (heights .entry))) (slab .lower) p (slab .reaching) ⌝ }
 {
     let top = top_at(heights, p);
-    if top > state.lower {
+    if top > slab.lower {
         return top;
     }
-    if state.reaching == 0 {
+    if slab.reaching == 0 {
         return 0;
     }
-    if reaches_over(heights, p, state.reaching) {
-        return state.reaching;
+    if reaches_over(heights, p, slab.reaching) {
+        return slab.reaching;
     }
     0
 }
 
 // The label of p ends below the leader of b, if b is a point.
 fn ends_below(heights: &PointArray, p: usize, b: usize) -> bool
-    requires { ⌜ (p < 34) × (b < 34) ⌝ }
+    requires { ⌜ (p < fieldCells) × (b < fieldCells) ⌝ }
     ensures { λ r. ⌜ r ≡ endsBelow (heightsOf (now (heights .entry))) p b ⌝ }
 {
     if point_count(heights) < b {
@@ -91,8 +93,8 @@ fn ends_below(heights: &PointArray, p: usize, b: usize) -> bool
 
 // The point p isn't in the row of b, if b is a point.
 pub(crate) fn rows_differ(heights: &PointArray, p: usize, b: usize) -> bool
-    requires { ⌜ (p < 34) × (b < 34) ⌝ }
-    ensures { λ r. ⌜ r ≡ clear (heightsOf (now (heights .entry))) p b ⌝ }
+    requires { ⌜ (p < fieldCells) × (b < fieldCells) ⌝ }
+    ensures { λ r. ⌜ r ≡ rowsDiffer (heightsOf (now (heights .entry))) p b ⌝ }
 {
     if point_count(heights) < b {
         return true;
@@ -101,24 +103,25 @@ pub(crate) fn rows_differ(heights: &PointArray, p: usize, b: usize) -> bool
 }
 
 // The open point p of a slab may be inside, where the points right of it in the slab are.
-pub(crate) fn may_be_inside(heights: &PointArray, state: State, p: usize) -> bool
-    requires { ⌜ Packed (now heights) × Candidate (heightsOf (now heights)) (state .lower) (state .upper) (state .reaching) p ⌝ }
-    ensures { λ r. ⌜ r ≡ good (heightsOf (now (heights .entry))) (heightsOf (now (heights .entry)) .rank p) (state .lower) (state .upper) (state .reaching) ⌝ }
+pub(crate) fn may_be_inside(heights: &PointArray, slab: Slab, p: usize) -> bool
+    requires { ⌜ Packed (now heights) × Candidate (heightsOf (now heights)) (slab .lower) (slab .upper) (slab .reaching) p ⌝ }
+    ensures { λ r. ⌜ r ≡ mayBeInside (heightsOf (now (heights .entry))) (heightsOf (now (heights .entry)) .rank p)
+        (slab .lower) (slab .upper) (slab .reaching) ⌝ }
 {
     if !allowed_at(heights, p) {
         return false;
     }
-    if top_at(heights, p) > state.lower {
+    if top_at(heights, p) > slab.lower {
         return false;
     }
-    if high_at(heights, p) < state.upper {
+    if high_at(heights, p) < slab.upper {
         return false;
     }
-    if !ends_below(heights, p, state.upper) {
+    if !ends_below(heights, p, slab.upper) {
         return false;
     }
-    if state.reaching == 0 {
+    if slab.reaching == 0 {
         return true;
     }
-    !labels_overlap(heights, p, state.reaching)
+    !overlaps(heights, p, slab.reaching)
 }

@@ -7,7 +7,20 @@ ghost use Rattle.labeling.specs.Comparisons.{highOf, topOf};
 ghost use Rattle.orders.specs.Arrays.{heightsOf};
 ghost use Rattle.optimum.specs.Packed.{Packed};
 ghost use Rattle.orders.specs.Sums.{tri, tet};
+ghost use Rattle.orders.specs.Layout.{fieldCells, sumCells, arrayCells};
 use orders::PointArray;
+use orders::layout::ALLOWED_FIELD;
+use orders::layout::AT_RANK_FIELD;
+use orders::layout::COUNT_CELL;
+use orders::layout::HEIGHT_CELL;
+use orders::layout::HIGH_FIELD;
+use orders::layout::RANK_FIELD;
+use orders::layout::ROW_FIELD;
+use orders::layout::TETRAHEDRAL_FIELD;
+use orders::layout::TOP_FIELD;
+use orders::layout::TRIANGULAR_FIELD;
+use orders::layout::WEIGHT_FIELD;
+use orders::layout::WIDTH_CELL;
 
 // A cell as a number of 64 bits.
 fn wide(x: u16) -> u64
@@ -32,7 +45,7 @@ pub(crate) fn number(x: u16) -> usize
 
 // The cell at place i.
 fn cell(heights: &PointArray, i: usize) -> usize
-    requires { ⌜ i < 483 ⌝ }
+    requires { ⌜ i < arrayCells ⌝ }
     ensures { λ r. ⌜ (r ≡ getD (now (heights .entry)) i 0) × (r < 65536) ⌝ }
 {
     number(heights[i])
@@ -42,12 +55,12 @@ fn cell(heights: &PointArray, i: usize) -> usize
 pub(crate) fn point_count(heights: &PointArray) -> usize
     ensures { λ r. ⌜ (r ≡ heightsOf (now (heights .entry)) .n) × (r < 65536) ⌝ }
 {
-    cell(heights, 480)
+    cell(heights, COUNT_CELL)
 }
 
 // The column of the point i.
 pub(crate) fn column_at(heights: &PointArray, i: usize) -> usize
-    requires { ⌜ i < 34 ⌝ }
+    requires { ⌜ i < fieldCells ⌝ }
     ensures { λ r. ⌜ (r ≡ heightsOf (now (heights .entry)) .column i) × (r < 65536) ⌝ }
 {
     cell(heights, i)
@@ -55,26 +68,26 @@ pub(crate) fn column_at(heights: &PointArray, i: usize) -> usize
 
 // The row of the point i.
 pub(crate) fn row_at(heights: &PointArray, i: usize) -> usize
-    requires { ⌜ i < 34 ⌝ }
+    requires { ⌜ i < fieldCells ⌝ }
     ensures { λ r. ⌜ (r ≡ heightsOf (now (heights .entry)) .row i) × (r < 65536) ⌝ }
 {
-    cell(heights, 34 + i)
+    cell(heights, ROW_FIELD + i)
 }
 
 // The rank of the point i in right order.
 pub(crate) fn rank_at(heights: &PointArray, i: usize) -> usize
-    requires { ⌜ i < 34 ⌝ }
+    requires { ⌜ i < fieldCells ⌝ }
     ensures { λ r. ⌜ (r ≡ heightsOf (now (heights .entry)) .rank i) × (r < 65536) ⌝ }
 {
-    cell(heights, 68 + i)
+    cell(heights, RANK_FIELD + i)
 }
 
 // The point of rank t in right order.
 pub(crate) fn at_rank(heights: &PointArray, t: usize) -> usize
-    requires { ⌜ t < 34 ⌝ }
+    requires { ⌜ t < fieldCells ⌝ }
     ensures { λ r. ⌜ (r ≡ heightsOf (now (heights .entry)) .atRank t) × (r < 65536) ⌝ }
 {
-    cell(heights, 102 + t)
+    cell(heights, AT_RANK_FIELD + t)
 }
 
 // The least point above i that is right of it and overlaps it, or n + 1.
@@ -82,7 +95,7 @@ pub(crate) fn high_at(heights: &PointArray, i: usize) -> usize
     requires { ⌜ Packed (now heights) × Point (heightsOf (now heights)) i ⌝ }
     ensures { λ r. ⌜ r ≡ highOf (heightsOf (now (heights .entry))) i ⌝ }
 {
-    cell(heights, 170 + i)
+    cell(heights, HIGH_FIELD + i)
 }
 
 // The topmost point whose label reaches over i, or 0.
@@ -90,57 +103,52 @@ pub(crate) fn top_at(heights: &PointArray, i: usize) -> usize
     requires { ⌜ Packed (now heights) × Point (heightsOf (now heights)) i ⌝ }
     ensures { λ r. ⌜ r ≡ topOf (heightsOf (now (heights .entry))) i ⌝ }
 {
-    cell(heights, 136 + i)
+    cell(heights, TOP_FIELD + i)
 }
 
 // The sum of the numbers below k.
 pub(crate) fn triangular(heights: &PointArray, k: usize) -> usize
-    requires { ⌜ Packed (now heights) × (k < 36) ⌝ }
+    requires { ⌜ Packed (now heights) × (k < sumCells) ⌝ }
     ensures { λ r. ⌜ (r ≡ tri k) × (r < 65536) ⌝ }
 {
-    cell(heights, 204 + k)
+    cell(heights, TRIANGULAR_FIELD + k)
 }
 
 // The sum of the triangular numbers below k.
 pub(crate) fn tetrahedral(heights: &PointArray, k: usize) -> usize
-    requires { ⌜ Packed (now heights) × (k < 36) ⌝ }
+    requires { ⌜ Packed (now heights) × (k < sumCells) ⌝ }
     ensures { λ r. ⌜ (r ≡ tet k) × (r < 65536) ⌝ }
 {
-    cell(heights, 240 + k)
+    cell(heights, TETRAHEDRAL_FIELD + k)
 }
 
 // The weight of the point i.
 pub(crate) fn weight_at(heights: &PointArray, i: usize) -> u64
-    requires { ⌜ i < 34 ⌝ }
+    requires { ⌜ i < fieldCells ⌝ }
     ensures { λ r. ⌜ r ≡ heightsOf (now (heights .entry)) .weight i ⌝ }
 {
-    let k = i * 4;
-    four_cells(
-        heights[276 + k],
-        heights[277 + k],
-        heights[278 + k],
-        heights[279 + k],
-    )
+    let k = (WEIGHT_FIELD + i) * 4;
+    four_cells(heights[k], heights[k + 1], heights[k + 2], heights[k + 3])
 }
 
 // The point i may be inside.
 pub(crate) fn allowed_at(heights: &PointArray, i: usize) -> bool
-    requires { ⌜ i < 34 ⌝ }
+    requires { ⌜ i < fieldCells ⌝ }
     ensures { λ r. ⌜ r ≡ heightsOf (now (heights .entry)) .allowed i ⌝ }
 {
-    cell(heights, 412 + i) == 1
+    cell(heights, ALLOWED_FIELD + i) == 1
 }
 
 // The width of a label.
 pub(crate) fn label_width(heights: &PointArray) -> usize
     ensures { λ r. ⌜ (r ≡ heightsOf (now (heights .entry)) .w) × (r < 65536) ⌝ }
 {
-    cell(heights, 481)
+    cell(heights, WIDTH_CELL)
 }
 
 // The height of a label.
 pub(crate) fn label_height(heights: &PointArray) -> usize
     ensures { λ r. ⌜ (r ≡ heightsOf (now (heights .entry)) .h) × (r < 65536) ⌝ }
 {
-    cell(heights, 482)
+    cell(heights, HEIGHT_CELL)
 }

@@ -4,11 +4,12 @@ ghost use mathlib.Core.Path.{_≡_};
 ghost use Prim.Native.Nat.{_+_, _*_, _<_};
 ghost use lib.ListN.{length};
 ghost use Rattle.labeling.specs.Recurrence.{between};
-ghost use Rattle.orders.specs.Arrays.{heightsOf};
 ghost use Rattle.optimum.specs.Packed.{Packed};
-ghost use Rattle.optimum.specs.Words.{valueAt, withValue, noteAt, withEntry};
+ghost use Rattle.orders.specs.Words.{valueAt, withValue};
+ghost use Rattle.optimum.specs.Entries.{noteAt, withEntry};
 ghost use Rattle.optimum.specs.Slabs.{slabPlace};
 ghost use Rattle.optimum.specs.Table.{Room, Ready, Unnoted};
+ghost use Rattle.optimum.specs.Places.{entries};
 use crate::points::four_cells;
 use crate::points::number;
 use crate::points::point_count;
@@ -17,12 +18,12 @@ use crate::points::triangular;
 use orders::PointArray;
 use std::num::wrapping_sub_usize;
 
-// Where the notes begin: behind the four cells of each of 6,545 values.
+// Where the notes begin: behind the four cells of each value.
 const NOTES: usize = 26180;
 
 // A slab (a, b, q in specs/): its lower and upper ends, each a boundary or an outside point, and the inside point from below whose
 // label reaches over the lower end, or 0.
-pub(crate) struct State {
+pub(crate) struct Slab {
     pub lower: usize,
     pub upper: usize,
     pub reaching: usize,
@@ -37,20 +38,20 @@ pub(crate) struct Found {
 
 // The point p is strictly between the ends of a slab. One test is enough: the distance from the lower end wraps round to a great
 // number for a point that isn't above it.
-pub(crate) fn is_between(state: State, p: usize) -> bool
-    requires { ⌜ state .lower < state .upper ⌝ }
-    ensures { λ r. ⌜ r ≡ between (state .lower) p (state .upper) ⌝ }
+pub(crate) fn between(slab: Slab, p: usize) -> bool
+    requires { ⌜ slab .lower < slab .upper ⌝ }
+    ensures { λ r. ⌜ r ≡ between (slab .lower) p (slab .upper) ⌝ }
 {
-    let first = state.lower + 1;
-    wrapping_sub_usize(p, first) < state.upper - first
+    let first = slab.lower + 1;
+    wrapping_sub_usize(p, first) < slab.upper - first
 }
 
 // The place of a slab.
-pub(crate) fn place(heights: &PointArray, state: State) -> usize
-    requires { ⌜ Ready (now heights) state ⌝ }
-    ensures { λ r. ⌜ (r ≡ slabPlace state) × (r < 6545) ⌝ }
+pub(crate) fn place(heights: &PointArray, slab: Slab) -> usize
+    requires { ⌜ Ready (now heights) slab ⌝ }
+    ensures { λ r. ⌜ (r ≡ slabPlace slab) × (r < entries) ⌝ }
 {
-    tetrahedral(heights, state.upper + 1) + triangular(heights, state.lower + 1) + state.reaching
+    tetrahedral(heights, slab.upper + 1) + triangular(heights, slab.lower + 1) + slab.reaching
 }
 
 // The value at a place.
@@ -76,7 +77,7 @@ fn write_value(table: &mut [u16], place: usize, x: u64)
 
 // The note at a place: 0 as long as nothing is known of the slab, and then one more than its cut.
 pub(crate) fn read_note(table: &[u16], place: usize) -> usize
-    requires { ⌜ (place < 6545) × Room (now table) ⌝ }
+    requires { ⌜ (place < entries) × Room (now table) ⌝ }
     ensures { λ r. ⌜ (r ≡ noteAt (now (table .entry)) place) × (r < 65536) ⌝ }
 {
     number(table[NOTES + place])
@@ -84,7 +85,7 @@ pub(crate) fn read_note(table: &[u16], place: usize) -> usize
 
 // Stores and notes an entry at a place.
 pub(crate) fn write_entry(table: &mut [u16], place: usize, found: Found)
-    requires { ⌜ (place < 6545) × Room (now table) × (found .cut < 65535) ⌝ }
+    requires { ⌜ (place < entries) × Room (now table) × (found .cut < 65535) ⌝ }
     ensures { λ _. ⌜ now (table .exit) ≡ withEntry (now (table .entry)) place (found .value) (found .cut) ⌝ }
 {
     write_value(table, place, found.value);

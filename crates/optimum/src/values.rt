@@ -1,24 +1,25 @@
 // The value of a slab: 0 where it has no choice, else one more than the weight of a best choice of its open points.
 ghost use mathlib.Core.Path.{_≡_};
 ghost use mathlib.Core.Bool.{_&&_};
-ghost use Prim.Native.Nat.{suc, _+_, _<_, _≤_, min};
+ghost use Prim.Native.Nat.{suc, _+_, _<_, _≤_, min, _*_};
 ghost use Rattle.labeling.specs.Recurrence.{join};
 ghost use Rattle.labeling.specs.Safe.{unreached};
 ghost use Rattle.orders.specs.Arrays.{heightsOf};
 ghost use Rattle.optimum.specs.Packed.{Packed};
-ghost use Rattle.optimum.specs.Slabs.{limit};
+ghost use Rattle.optimum.specs.Slabs.{openBelow};
 ghost use Rattle.optimum.specs.Table.{betterOf, Settled, Kept, Asked, Valued, Cutting, ValuedOutside, Running, Stepped};
+ghost use Rattle.orders.specs.Layout.{fieldCells, weightBound};
 use crate::conflicts::may_be_inside;
+use crate::conflicts::reach;
 use crate::conflicts::reaches_over;
-use crate::conflicts::reaching_over;
 use crate::conflicts::rows_differ;
 use crate::limits::label_below;
 use crate::points::at_rank;
 use crate::points::rank_at;
 use crate::points::weight_at;
 use crate::table::Found;
-use crate::table::State;
-use crate::table::is_between;
+use crate::table::Slab;
+use crate::table::between;
 use crate::table::place;
 use crate::table::read_note;
 use crate::table::read_value;
@@ -54,16 +55,16 @@ fn better(best: Found, other: Found) -> Found
 }
 
 // The rank below which the points of a slab are open.
-pub(crate) fn open_below(heights: &PointArray, state: State) -> usize
-    requires { ⌜ (state .lower < 34) × (state .upper < 34) ⌝ }
-    ensures { λ r. ⌜ r ≡ limit (heightsOf (now (heights .entry))) state ⌝ }
+pub(crate) fn open_below(heights: &PointArray, slab: Slab) -> usize
+    requires { ⌜ (slab .lower < fieldCells) × (slab .upper < fieldCells) ⌝ }
+    ensures { λ r. ⌜ r ≡ openBelow (heightsOf (now (heights .entry))) slab ⌝ }
 {
-    lesser(rank_at(heights, state.lower), rank_at(heights, state.upper))
+    lesser(rank_at(heights, slab.lower), rank_at(heights, slab.upper))
 }
 
 // The values of two parts, with the weight put inside so far.
 fn joined(acc: u64, x: u64, y: u64) -> u64
-    requires { ⌜ (1 ≤ acc) × (acc ≤ 72057594037927936) × (x ≤ 1125899906842624) × (y ≤ 1125899906842624) ⌝ }
+    requires { ⌜ (1 ≤ acc) × (acc ≤ 64 * weightBound) × (x ≤ weightBound) × (y ≤ weightBound) ⌝ }
     ensures { λ r. ⌜ r ≡ join acc (join x y) ⌝ }
 {
     if x == 0 {
@@ -76,22 +77,22 @@ fn joined(acc: u64, x: u64, y: u64) -> u64
 }
 
 // What the open point p gives outside, with the weight put inside so far: the slab is cut at p.
-fn outside_value(heights: &PointArray, table: &mut [u16], state: State, p: usize, acc: u64) -> u64
-    requires { ⌜ Cutting (now heights) (now table) state p acc ⌝ }
-    ensures { λ r. ⌜ ValuedOutside (now (heights .entry)) state p acc r (now (table .entry)) (now (table .exit)) ⌝ }
+fn outside_value(heights: &PointArray, table: &mut [u16], slab: Slab, p: usize, acc: u64) -> u64
+    requires { ⌜ Cutting (now heights) (now table) slab p acc ⌝ }
+    ensures { λ r. ⌜ ValuedOutside (now (heights .entry)) slab p acc r (now (table .entry)) (now (table .exit)) ⌝ }
 {
-    if !rows_differ(heights, p, state.upper) {
+    if !rows_differ(heights, p, slab.upper) {
         return 0;
     }
-    let over = reaching_over(heights, state, p);
-    let lower_part = State {
-        lower: state.lower,
+    let over = reach(heights, slab, p);
+    let lower_part = Slab {
+        lower: slab.lower,
         upper: p,
-        reaching: state.reaching,
+        reaching: slab.reaching,
     };
-    let upper_part = State {
+    let upper_part = Slab {
         lower: p,
-        upper: state.upper,
+        upper: slab.upper,
         reaching: over,
     };
     let x = value_of(heights, table, lower_part);
@@ -100,7 +101,7 @@ fn outside_value(heights: &PointArray, table: &mut [u16], state: State, p: usize
 }
 
 // The label of p reaches over no point between p and b.
-fn reaches_none(heights: &PointArray, p: usize, b: usize) -> bool
+fn unreached(heights: &PointArray, p: usize, b: usize) -> bool
     requires { ⌜ Packed (now heights) × (1 ≤ p) × (p < b) × (b ≤ heightsOf (now heights) .n + 1) ⌝ }
     ensures { λ r. ⌜ r ≡ unreached (heightsOf (now (heights .entry))) p b ⌝ }
 {
@@ -118,28 +119,28 @@ fn reaches_none(heights: &PointArray, p: usize, b: usize) -> bool
 }
 
 // The open point p is safe: it may be inside, and its label reaches over no point above it in the slab. Then it gives no more outside.
-fn is_safe(heights: &PointArray, p: usize, b: usize, good: bool) -> bool
+fn is_safe(heights: &PointArray, p: usize, b: usize, inside: bool) -> bool
     requires { ⌜ Packed (now heights) × (1 ≤ p) × (p < b) × (b ≤ heightsOf (now heights) .n + 1) ⌝ }
-    ensures { λ r. ⌜ r ≡ (good && unreached (heightsOf (now (heights .entry))) p b) ⌝ }
+    ensures { λ r. ⌜ r ≡ (inside && unreached (heightsOf (now (heights .entry))) p b) ⌝ }
 {
-    if !good {
+    if !inside {
         return false;
     }
-    reaches_none(heights, p, b)
+    unreached(heights, p, b)
 }
 
 // One step of the entry's loop, at rank t: what its point gives outside may be a new best, unless it is safe; inside it adds its weight.
-fn step(heights: &PointArray, table: &mut [u16], state: State, t: usize, run: Run) -> Run
-    requires { ⌜ Asked (now heights) (now table) state × Running (heightsOf (now heights)) state (suc t) run ⌝ }
-    ensures { λ r. ⌜ Stepped (now (heights .entry)) state t r (now (table .entry)) (now (table .exit)) ⌝ }
+fn step(heights: &PointArray, table: &mut [u16], slab: Slab, t: usize, run: Run) -> Run
+    requires { ⌜ Asked (now heights) (now table) slab × Running (heightsOf (now heights)) slab (suc t) run ⌝ }
+    ensures { λ r. ⌜ Stepped (now (heights .entry)) slab t r (now (table .entry)) (now (table .exit)) ⌝ }
 {
     let p = at_rank(heights, t);
-    if !is_between(state, p) {
+    if !between(slab, p) {
         return run;
     }
     let so_far = run.best;
-    let inside = may_be_inside(heights, state, p);
-    if is_safe(heights, p, state.upper, inside) {
+    let inside = may_be_inside(heights, slab, p);
+    if is_safe(heights, p, slab.upper, inside) {
         return Run {
             best: so_far,
             acc: run.acc + weight_at(heights, p),
@@ -147,7 +148,7 @@ fn step(heights: &PointArray, table: &mut [u16], state: State, t: usize, run: Ru
         };
     }
     let outside = Found {
-        value: outside_value(heights, table, state, p, run.acc),
+        value: outside_value(heights, table, slab, p, run.acc),
         cut: t + 1,
     };
     let best = better(so_far, outside);
@@ -167,14 +168,15 @@ fn step(heights: &PointArray, table: &mut [u16], state: State, t: usize, run: Ru
 
 // The entry of a slab, by a loop over the ranks of its open points downwards, which ends at a point that may not be inside. With no point
 // between its ends there is nothing to choose.
-fn entry(heights: &PointArray, table: &mut [u16], state: State) -> Found
-    requires { ⌜ Asked (now heights) (now table) state ⌝ }
-    ensures { λ r. ⌜ Settled (heightsOf (now (heights .entry))) state r × Kept (now (heights .entry)) (now (table .entry)) (now (table .exit)) ⌝ }
+fn entry(heights: &PointArray, table: &mut [u16], slab: Slab) -> Found
+    requires { ⌜ Asked (now heights) (now table) slab ⌝ }
+    ensures { λ r. ⌜ Settled (heightsOf (now (heights .entry))) slab r
+        × Kept (now (heights .entry)) (now (table .entry)) (now (table .exit)) ⌝ }
 {
-    if state.upper - state.lower < 2 {
+    if slab.upper - slab.lower < 2 {
         return Found { value: 1, cut: 0 };
     }
-    let mut t = open_below(heights, state);
+    let mut t = open_below(heights, slab);
     let mut run = Run {
         best: Found { value: 0, cut: 0 },
         acc: 1,
@@ -182,7 +184,7 @@ fn entry(heights: &PointArray, table: &mut [u16], state: State) -> Found
     };
     while t > 0 {
         t -= 1;
-        run = step(heights, table, state, t, run);
+        run = step(heights, table, slab, t, run);
         if run.ended {
             return run.best;
         }
@@ -196,15 +198,15 @@ fn entry(heights: &PointArray, table: &mut [u16], state: State) -> Found
 }
 
 // The value of a slab: looked up, or computed and then kept.
-pub(crate) fn value_of(heights: &PointArray, table: &mut [u16], state: State) -> u64
-    requires { ⌜ Asked (now heights) (now table) state ⌝ }
-    ensures { λ r. ⌜ Valued (now (heights .entry)) state r (now (table .entry)) (now (table .exit)) ⌝ }
+pub(crate) fn value_of(heights: &PointArray, table: &mut [u16], slab: Slab) -> u64
+    requires { ⌜ Asked (now heights) (now table) slab ⌝ }
+    ensures { λ r. ⌜ Valued (now (heights .entry)) slab r (now (table .entry)) (now (table .exit)) ⌝ }
 {
-    let at = place(heights, state);
+    let at = place(heights, slab);
     if read_note(&table[..], at) != 0 {
         return read_value(&table[..], at);
     }
-    let found = entry(heights, table, state);
+    let found = entry(heights, table, slab);
     write_entry(table, at, found);
     found.value
 }

@@ -2,7 +2,7 @@
 use mathlib.Core.Path.{sym, _∙_}
 use native.Mathlib.Omega.{arith}
 use Rattle.format.specs.Accepted.{none-sheet}
-use Rattle.format.specs.MakingQuestions.{none-making}
+use Rattle.format.specs.MakingQuestions.{none-asked}
 use Rattle.optimum.specs.Chosen.{refused-choosing, chosen-choosing}
 use borrow.Author.Needs.{needs}
 use Rattle.optimum.proofs.best_choice.Statement.{statement}
@@ -15,13 +15,15 @@ nothing-chosen-requires : tie.Need-nothing-chosen-requires
 nothing-chosen-requires c κs = search needs
 
 returns : tie.Need-returns
-returns c = rw (c .nothing-chosen .ensures) (refused-choosing _ _ _ _ (c .before .before .before .ordered-points .ensures .number) (c .before .if1 .taken))
+returns c =
+    rw (c .nothing-chosen .ensures)
+    (refused-choosing _ _ _ _ (c .before .before .before .ordered-points .ensures .no) (c .before .if1 .taken))
 
 chosen-requires : tie.Need-chosen-requires
 chosen-requires c κs =
     let points = c .before .before .before .before .ordered-points .ensures in
     let none = c .before .before .if1 .left in
-    let f = none-making _ _ _ .is (sym (points .number) ∙ none) in
+    let f = none-asked _ _ _ .is (sym (points .no) ∙ none) in
     (none-sheet _ .of (f .0), points .ordered none, omega (arith, f .1 .1 .0))
 
 same-length : tie.Need-same-length
@@ -30,7 +32,10 @@ same-length c = search needs
 returns-2 : tie.Need-returns-2
 returns-2 c =
     let r = c .before .before .chosen in
-    chosen-choosing _ _ _ _ (r .result) (sym (c .before .before .before .before .before .before .before .ordered-points .ensures .number) ∙ c .before .before .before .before .before .if1 .left) (r .ensures .0) (r .ensures .2) (r .ensures .1)
+    chosen-choosing _ _ _ _ (r .result)
+    (sym (c .before .before .before .before .before .before .before .ordered-points .ensures .no)
+    ∙ c .before .before .before .before .before .if1 .left)
+    (r .ensures .0) (r .ensures .2) (r .ensures .1)
 
 pub best-choice-spec : {M : Type 1} → statement M
 best-choice-spec =

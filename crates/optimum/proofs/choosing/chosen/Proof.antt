@@ -22,11 +22,15 @@ ready c = prepared (c .before .before .before .before .pre .1) (c .write-limits 
 write-limits-requires : tie.Need-write-limits-requires
 write-limits-requires c κs = search needs
 
-none-marked-requires : tie.Need-none-marked-requires
-none-marked-requires c κs = search needs
+none-flagged-requires : tie.Need-none-flagged-requires
+none-flagged-requires c κs = search needs
 
 solve-requires : tie.Need-solve-requires
-solve-requires c κs = (ready (c .before .before .before .before) .packed, c .before .before .before .before .before .before .before .before .pre .2, rw (c .before .before .before .none-marked .ensures) none-blank)
+solve-requires c κs = (
+  ready (c .before .before .before .before) .packed,
+  c .before .before .before .before .before .before .before .before .pre .2,
+  rw (c .before .before .before .none-flagged .ensures) none-blank,
+)
 
 clear-requires : tie.Need-clear-requires
 clear-requires c κs = search needs
@@ -41,7 +45,8 @@ point-count-requires c κs = search needs
 
 two-lists-requires : tie.Need-two-lists-requires
 two-lists-requires c κs =
-    let limits = c .before .before .before .before .before .before .before .before .before .before .before .before .before .before .before .before .before in
+    let limits = c .before .before .before .before .before .before .before .before .before .before .before .before .before .before .before
+    .before .before in
     let f = fine (limits .before .before .before .before) in
     (omega (arith, f .proper .few, c .before .before .point-count .ensures), numbered _ (f .proper .few) (ready limits .arranged))
 
@@ -50,11 +55,14 @@ same-length c = search needs
 
 returns : tie.Need-returns
 returns c =
-    let limits = c .before .before .before .before .before .before .before .before .before .before .before .before .before .before .before .before .before .before in
-    let solved = c .before .before .before .before .before .before .before .before .before .before .before .before .before .solve .ensures in
+    let limits = c .before .before .before .before .before .before .before .before .before .before .before .before .before .before .before
+    .before .before .before in
+    let solved =
+    c .before .before .before .before .before .before .before .before .before .before .before .before .before .solve .ensures in
     let lists = rw (c .before .before .before .point-count .ensures) at (c .two-lists .ensures) in (
-      lists .number,
-      best-split _ _ _ _ (fine (limits .before .before .before .before)) (ready limits) (solved .0) (record { at = c .before .before .before .before .by-position .ensures }) (c .two-lists .result) lists,
+      lists .no,
+      best-split _ _ _ _ (fine (limits .before .before .before .before)) (ready limits) (solved .0)
+          (record { at = c .before .before .before .before .by-position .ensures }) (c .two-lists .result) lists,
       c .before .before .before .before .before .before .before .before .before .clear .ensures ∙ ap (λ (n : ℕ). replicate n 0) (solved .2),
     )
 
@@ -63,7 +71,7 @@ chosen-spec =
     tie.close
     (tie.spec
     write-limits-requires
-    none-marked-requires
+    none-flagged-requires
     solve-requires
     clear-requires
     by-position-requires

@@ -11,7 +11,8 @@ use Rattle.optimum.proofs.choosing.clear.Statement.{statement}
 use Rattle.optimum.proofs.choosing.clear.Tie as tie
 
 abbrev Inv-loop : tie.InvT-loop
-Inv-loop workspace₀ i₀ workspace i = (i ≤ length workspace₀) × (length workspace ≡ length workspace₀) × (workspace ≡ replicate i 0 ++ drop i workspace₀)
+Inv-loop workspace₀ i₀ workspace i =
+    (i ≤ length workspace₀) × (length workspace ≡ length workspace₀) × (workspace ≡ replicate i 0 ++ drop i workspace₀)
 
 abbrev μ-loop : tie.MeasureT-loop
 μ-loop workspace₀ i₀ workspace i = length workspace₀ - i

@@ -45,8 +45,13 @@ slab-requires c κs =
     let value = left .before .before .before in
     let count = value .before .before in
     let p = count .before .before .before .before .before .before .pre in
-    let valued = value .value-of .ensures in
-    (record { asked = record { ready = all-ready (p .0) _ (count .point-count .ensures .0); memo = valued .kept .memo }; some = omega (arith, valued .is, left .if1 .left) }, p .2 .long)
+    let valued = value .value-of .ensures in (
+      record {
+        asked = record { ready = all-ready (p .0) _ (count .point-count .ensures .0); memo = valued .kept .memo };
+        some = omega (arith, valued .is, left .if1 .left);
+      },
+      p .2 .long,
+    )
 
 same-length-2 : tie.Need-same-length-2
 same-length-2 c = search needs
@@ -59,10 +64,10 @@ returns-2 c =
     let clear = count .before .before .before in
     let p = clear .before .before .before .pre in
     let valued = value .value-of .ensures in
-    let marked = slab .slab .ensures in (
-      all-solved (p .0) _ (count .point-count .ensures .0) _ _ _ (p .2) (marked .marks) (valued .is),
-      marked .marks .same ∙ p .2 .long,
-      marked .kept .same ∙ (valued .kept .same ∙ clear .clear-notes .ensures .same),
+    let flagged = slab .slab .ensures in (
+      all-solved (p .0) _ (count .point-count .ensures .0) _ _ _ (p .2) (flagged .flagged) (valued .is),
+      flagged .flagged .same ∙ p .2 .long,
+      flagged .kept .same ∙ (valued .kept .same ∙ clear .clear-notes .ensures .same),
     )
 
 pub solve-spec : {M : Type 1} → statement M

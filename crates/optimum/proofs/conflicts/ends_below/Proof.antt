@@ -24,7 +24,8 @@ row-at-requires-2 : tie.Need-row-at-requires-2
 row-at-requires-2 c κs = search needs
 
 returns-2 : tie.Need-returns-2
-returns-2 c = rw (c .before .before .row-at .ensures .0, c .before .label-height .ensures .0, c .row-at2 .ensures .0) (ends-point _ _ _ (omega arith))
+returns-2 c =
+    rw (c .before .before .row-at .ensures .0, c .before .label-height .ensures .0, c .row-at2 .ensures .0) (ends-point _ _ _ (omega arith))
 
 pub ends-below-spec : {M : Type 1} → statement M
 ends-below-spec =

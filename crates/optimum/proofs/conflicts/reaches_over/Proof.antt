@@ -42,7 +42,9 @@ add-result : tie.Need-add-result
 add-result c = search needs
 
 returns-3 : tie.Need-returns-3
-returns-3 c = rw (c .before .before .column-at3 .ensures .0, c .before .column-at4 .ensures .0, c .label-width .ensures .0) (reaches-rest _ _ _ (omega arith) (omega arith) (omega arith) (omega arith))
+returns-3 c =
+    rw (c .before .before .column-at3 .ensures .0, c .before .column-at4 .ensures .0, c .label-width .ensures .0)
+    (reaches-rest _ _ _ (omega arith) (omega arith) (omega arith) (omega arith))
 
 pub reaches-over-spec : {M : Type 1} → statement M
 reaches-over-spec =

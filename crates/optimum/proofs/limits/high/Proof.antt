@@ -10,7 +10,9 @@ use Rattle.optimum.proofs.limits.high.Statement.{statement}
 use Rattle.optimum.proofs.limits.high.Tie as tie
 
 abbrev Inv-loop : tie.InvT-loop
-Inv-loop heights i n column to j₀ j = (n ≤ 32) × (n ≡ heightsOf heights .n) × (i < j) × (j ≤ n + 1) × (column ≡ heightsOf heights .column i) × (to ≡ heightsOf heights .column i + heightsOf heights .w) × AtLeast (overlapsAbove (heightsOf heights) i) (heightsOf heights .n) j
+Inv-loop heights i n column to j₀ j =
+    (n ≤ 32) × (n ≡ heightsOf heights .n) × (i < j) × (j ≤ n + 1) × (column ≡ heightsOf heights .column i)
+    × (to ≡ heightsOf heights .column i + heightsOf heights .w) × AtLeast (overlapsAbove (heightsOf heights) i) (heightsOf heights .n) j
 
 abbrev μ-loop : tie.MeasureT-loop
 μ-loop heights i n column to j₀ j = n + 1 - j
@@ -31,7 +33,15 @@ add-j : tie.Need-add-j Inv-loop μ-loop
 add-j c = omega (arith, c .before .before .before .pre .0 .few, c .before .before .before .pre .1 .high)
 
 loop-holds : tie.Need-loop-holds Inv-loop μ-loop
-loop-holds c = (omega (arith, c .before .before .before .pre .0 .few, c .before .before .point-count .ensures .0), c .before .before .point-count .ensures .0, omega arith, omega (arith, c .before .before .before .pre .1 .high, c .before .before .point-count .ensures .0), c .before .column-at .ensures .0, omega (arith, c .before .column-at .ensures .0, c .label-width .ensures .0), high-start _ _)
+loop-holds c = (
+  omega (arith, c .before .before .before .pre .0 .few, c .before .before .point-count .ensures .0),
+  c .before .before .point-count .ensures .0,
+  omega arith,
+  omega (arith, c .before .before .before .pre .1 .high, c .before .before .point-count .ensures .0),
+  c .before .column-at .ensures .0,
+  omega (arith, c .before .column-at .ensures .0, c .label-width .ensures .0),
+  high-start _ _,
+)
 
 label-below-requires : tie.Need-label-below-requires Inv-loop μ-loop
 label-below-requires c κs = search needs
@@ -40,13 +50,26 @@ add-result : tie.Need-add-result Inv-loop μ-loop
 add-result c = search needs
 
 returns : tie.Need-returns Inv-loop μ-loop
-returns c = let x = high-ends (c .before .before .before .before .before .before .before .pre .0 .sorted) _ (c .before .before .before .before .before .before .before .pre .1) (omega arith) (omega arith) (c .before .before .before .loop .inv .6) (sym (c .before .label-below .ensures) ∙ c .if1 .taken) in (omega (arith, x), omega arith)
+returns c =
+    let x =
+    high-ends (c .before .before .before .before .before .before .before .pre .0 .sorted) _
+    (c .before .before .before .before .before .before .before .pre .1) (omega arith) (omega arith)
+    (c .before .before .before .loop .inv .6) (sym (c .before .label-below .ensures) ∙ c .if1 .taken) in
+    (omega (arith, x), omega arith)
 
 column-within-requires : tie.Need-column-within-requires Inv-loop μ-loop
 column-within-requires c κs = search needs
 
 returns-2 : tie.Need-returns-2 Inv-loop μ-loop
-returns-2 c = (high-found (c .before .before .before .before .before .before .before .before .before .pre .0 .sorted) _ (c .before .before .before .before .before .before .before .before .before .pre .1) (omega arith) (omega arith) (c .before .before .before .before .before .loop .inv .6) (sym (c .before .before .before .label-below .ensures) ∙ c .before .before .if1 .left) (c .before .before .before .before .before .loop .inv .4) (c .before .before .before .before .before .loop .inv .5) (sym (c .before .column-within .ensures) ∙ c .if2 .taken), omega arith)
+returns-2 c = (
+  high-found (c .before .before .before .before .before .before .before .before .before .pre .0 .sorted)
+      _ (c .before .before .before .before .before .before .before .before .before .pre .1)
+      (omega arith) (omega arith) (c .before .before .before .before .before .loop .inv .6)
+      (sym (c .before .before .before .label-below .ensures) ∙ c .before .before .if1 .left)
+      (c .before .before .before .before .before .loop .inv .4) (c .before .before .before .before .before .loop .inv .5)
+      (sym (c .before .column-within .ensures) ∙ c .if2 .taken),
+  omega arith,
+)
 
 add-j-2 : tie.Need-add-j-2 Inv-loop μ-loop
 add-j-2 c = search needs
@@ -55,7 +78,20 @@ loop-less : tie.Need-loop-less Inv-loop μ-loop
 loop-less c = search needs
 
 loop-again : tie.Need-loop-again Inv-loop μ-loop
-loop-again c = ((c .before .before .before .before .before .loop .inv .0), (c .before .before .before .before .before .loop .inv .1), omega arith, omega arith, (c .before .before .before .before .before .loop .inv .4), (c .before .before .before .before .before .loop .inv .5), high-next (c .before .before .before .before .before .before .before .before .before .pre .0 .sorted) _ (c .before .before .before .before .before .before .before .before .before .pre .1) (omega arith) (omega arith) (c .before .before .before .before .before .loop .inv .6) (sym (c .before .before .before .label-below .ensures) ∙ c .before .before .if1 .left) (c .before .before .before .before .before .loop .inv .4) (c .before .before .before .before .before .loop .inv .5) (sym (c .before .column-within .ensures) ∙ c .if2 .left))
+loop-again c = (
+  (c .before .before .before .before .before .loop .inv .0),
+  (c .before .before .before .before .before .loop .inv .1),
+  omega arith,
+  omega arith,
+  (c .before .before .before .before .before .loop .inv .4),
+  (c .before .before .before .before .before .loop .inv .5),
+  high-next (c .before .before .before .before .before .before .before .before .before .pre .0 .sorted)
+      _ (c .before .before .before .before .before .before .before .before .before .pre .1)
+      (omega arith) (omega arith) (c .before .before .before .before .before .loop .inv .6)
+      (sym (c .before .before .before .label-below .ensures) ∙ c .before .before .if1 .left)
+      (c .before .before .before .before .before .loop .inv .4) (c .before .before .before .before .before .loop .inv .5)
+      (sym (c .before .column-within .ensures) ∙ c .if2 .left),
+)
 
 add-result-2 : tie.Need-add-result-2 Inv-loop μ-loop
 add-result-2 c = search needs

@@ -18,7 +18,8 @@ abbrev μ-loop : tie.MeasureT-loop
 μ-loop heights₀ n k₀ heights k = n - k
 
 -- the points are still in order
-points : (c : tie.At-loop Inv-loop μ-loop) → SameHeights (heightsOf (c .before .before .before .args .heights .now)) (heightsOf (c .loop .heights))
+points : (c : tie.At-loop Inv-loop μ-loop)
+    → SameHeights (heightsOf (c .before .before .before .args .heights .now)) (heightsOf (c .loop .heights))
 points c = kept-same (c .loop .inv .3 .kept) (c .before .before .before .pre .few)
 
 order : (c : tie.At-loop Inv-loop μ-loop) → InOrder (c .loop .heights)
@@ -31,7 +32,12 @@ point-count-requires : tie.Need-point-count-requires Inv-loop μ-loop
 point-count-requires c κs = search needs
 
 loop-holds : tie.Need-loop-holds Inv-loop μ-loop
-loop-holds c = (omega (arith, c .point-count .ensures .0, c .before .before .pre .few), omega arith, c .point-count .ensures .0, limited-none _)
+loop-holds c = (
+  omega (arith, c .point-count .ensures .0, c .before .before .pre .few),
+  omega arith,
+  c .point-count .ensures .0,
+  limited-none _,
+)
 
 add-top : tie.Need-add-top Inv-loop μ-loop
 add-top c = search needs
@@ -83,7 +89,9 @@ loop-again c =
       omega arith,
       omega arith,
       l .inv .2,
-      limited-more (omega arith) (order turn .long) (l .inv .3) _ _ (c .before .before .top .ensures .0 ∙ top-same (points turn) (l .k + 1) u) (c .high .ensures .0 ∙ high-same (points turn) (l .k + 1) u),
+      limited-more (omega arith) (order turn .long) (l .inv .3) _ _
+          (c .before .before .top .ensures .0 ∙ top-same (points turn) (l .k + 1) u)
+          (c .high .ensures .0 ∙ high-same (points turn) (l .k + 1) u),
     )
 
 returns : tie.Need-returns Inv-loop μ-loop

@@ -13,7 +13,7 @@ element-copy-out-result : tie.Need-element-copy-out-result
 element-copy-out-result c = search needs
 
 returns : tie.Need-returns
-returns c = ap (λ p. eqb (getD (c .before .before .args .marks .now) p 0) 1) (c .before .index .ensures .0)
+returns c = ap (λ p. eqb (getD (c .before .before .args .choice .now) p 0) 1) (c .before .index .ensures .0)
 
 pub is-inside-spec : {M : Type 1} → statement M
 is-inside-spec = tie.close (tie.spec index-requires element-copy-out-result returns)

@@ -8,17 +8,18 @@ use native.Mathlib.Omega.{arith}
 use Rattle.labeling.specs.Points.{Choice}
 use Rattle.format.specs.Plate.{insideBelow}
 use Rattle.format.specs.Written.{written, written-none}
-use Rattle.optimum.specs.Split.{marked}
+use Rattle.optimum.specs.Split.{flagged}
 use Rattle.optimum.specs.Lists.{inside-more, inside-same}
 use Rattle.optimum.proofs.lists.list_inside.Statement.{statement}
 use Rattle.optimum.proofs.lists.list_inside.Tie as tie
 
 abbrev Inv-loop : tie.InvT-loop
-Inv-loop marks n list₀ count₀ next₀ list count next =
-    (next ≤ n) × (count ≤ next) × (length list ≡ 32) × (count ≡ length (insideBelow (marked marks) next)) × (list ≡ written list₀ 0 (insideBelow (marked marks) next))
+Inv-loop choice n list₀ count₀ next₀ list count next =
+    (next ≤ n) × (count ≤ next) × (length list ≡ 32) × (count ≡ length (insideBelow (flagged choice) next))
+    × (list ≡ written list₀ 0 (insideBelow (flagged choice) next))
 
 abbrev μ-loop : tie.MeasureT-loop
-μ-loop marks n list₀ count₀ next₀ list count next = n - next
+μ-loop choice n list₀ count₀ next₀ list count next = n - next
 
 loop-holds : tie.Need-loop-holds Inv-loop μ-loop
 unfolding insideBelow
@@ -43,7 +44,7 @@ loop-again : tie.Need-loop-again Inv-loop μ-loop
 loop-again c =
     let a = c .before .before .before .before .args in
     let l = c .before .before .before .loop in
-    let S : Choice = marked (a .marks .now) in
+    let S : Choice = flagged (a .choice .now) in
     let e : S (l .next) ≡ true = sym (c .before .is-inside .ensures) ∙ c .if1 .taken in
     let m = inside-more S (a .list .now) (l .next) (l .count) (l .list) (omega arith) e (l .inv .3) (l .inv .4) in
     (search needs, search needs, simp length-set (search needs), m .0, m .1)
@@ -55,7 +56,7 @@ loop-again-2 : tie.Need-loop-again-2 Inv-loop μ-loop
 loop-again-2 c =
     let a = c .before .before .before .before .args in
     let l = c .before .before .before .loop in
-    let S : Choice = marked (a .marks .now) in
+    let S : Choice = flagged (a .choice .now) in
     let e : S (l .next) ≡ false = sym (c .before .is-inside .ensures) ∙ c .if1 .left in
     let m = inside-same S (a .list .now) (l .next) (l .count) (l .list) e (l .inv .3) (l .inv .4) in
     (search needs, search needs, search needs, m .0, m .1)

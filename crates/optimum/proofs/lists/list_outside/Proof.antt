@@ -11,18 +11,19 @@ use native.Mathlib.Omega.{arith}
 use Rattle.labeling.specs.Points.{Choice}
 use Rattle.labeling.specs.Recurrence.{Point}
 use Rattle.orders.specs.Arrays.{heightsOf, positionAt}
-use Rattle.optimum.specs.Split.{marked, outsideDown, outsidePositions, Listed}
+use Rattle.optimum.specs.Split.{flagged, outsideDown, outsidePositions, Listed}
 use Rattle.optimum.specs.Outside.{down-inside, down-outside}
 use Rattle.optimum.specs.Lists.{listed-none, listed-more, listed-whole}
 use Rattle.optimum.proofs.lists.list_outside.Statement.{statement}
 use Rattle.optimum.proofs.lists.list_outside.Tie as tie
 
 abbrev Inv-loop : tie.InvT-loop
-Inv-loop heights marks list₀ count₀ i₀ list count i =
-    (i ≤ heightsOf heights .n) × (count + i ≤ heightsOf heights .n) × (length list ≡ 32) × Listed (outsidePositions heights marks) list₀ (outsideDown (marked marks) (positionAt heights) i) count list
+Inv-loop heights choice list₀ count₀ i₀ list count i =
+    (i ≤ heightsOf heights .n) × (count + i ≤ heightsOf heights .n) × (length list ≡ 32)
+    × Listed (outsidePositions heights choice) list₀ (outsideDown (flagged choice) (positionAt heights) i) count list
 
 abbrev μ-loop : tie.MeasureT-loop
-μ-loop heights marks list₀ count₀ i₀ list count i = i
+μ-loop heights choice list₀ count₀ i₀ list count i = i
 
 -- the position of point i is one of the sheet's
 below : (c : tie.In-loop Inv-loop μ-loop) → positionAt (c .before .before .before .args .heights .now) (c .before .loop .i) < 32
@@ -40,7 +41,7 @@ loop-holds : tie.Need-loop-holds Inv-loop μ-loop
 loop-holds c =
     let a = c .before .args in
     let e = c .point-count .ensures .0 in
-    (search needs, search needs, search needs, rw e (listed-none (a .list .now) (outsidePositions (a .heights .now) (a .marks .now))))
+    (search needs, search needs, search needs, rw e (listed-none (a .list .now) (outsidePositions (a .heights .now) (a .choice .now))))
 
 position-at-requires : tie.Need-position-at-requires Inv-loop μ-loop
 position-at-requires c κs = let b = below c in (omega (arith, c .before .before .before .pre .0 .few), omega arith)
@@ -52,7 +53,8 @@ is-inside-requires : tie.Need-is-inside-requires Inv-loop μ-loop
 is-inside-requires c κs = omega (arith, below (c .before))
 
 element-write-list : tie.Need-element-write-list Inv-loop μ-loop
-element-write-list c = omega (arith, c .before .before .before .before .loop .inv .1, c .before .before .before .before .before .before .pre .0 .few)
+element-write-list c =
+    omega (arith, c .before .before .before .before .loop .inv .1, c .before .before .before .before .before .before .pre .0 .few)
 
 add-count : tie.Need-add-count Inv-loop μ-loop
 add-count c = omega (arith, c .before .before .before .before .loop .inv .1, c .before .before .before .before .before .before .pre .0 .few)
@@ -64,12 +66,20 @@ loop-again : tie.Need-loop-again Inv-loop μ-loop
 loop-again c =
     let a = c .before .before .before .before .before .before .args in
     let l = c .before .before .before .before .loop in
-    let S : Choice = marked (a .marks .now) in
+    let S : Choice = flagged (a .choice .now) in
     let pos = positionAt (a .heights .now) in
-    let e : S (pos (l .i)) ≡ false = sym (ap S (c .before .before .position-at .ensures)) ∙ sym (c .before .is-inside .ensures) ∙ not-true (c .before .is-inside .result) (c .if1 .taken) in
+    let e : S (pos (l .i)) ≡ false =
+    sym (ap S (c .before .before .position-at .ensures))
+    ∙ sym (c .before .is-inside .ensures)
+    ∙ not-true (c .before .is-inside .result) (c .if1 .taken) in
     let p : c .before .before .position-at .result ≡ pos (l .i) = c .before .before .position-at .ensures in
-    let f = rw (down-outside S pos (l .i) (omega arith) e) at (l .inv .3) in
-    (search needs, search needs, simp length-set (search needs), rw p (listed-more (outsidePositions (a .heights .now) (a .marks .now)) (a .list .now) (pos (l .i)) (outsideDown S pos (l .i - 1)) (l .count) (l .list) (omega arith) f))
+    let f = rw (down-outside S pos (l .i) (omega arith) e) at (l .inv .3) in (
+      search needs,
+      search needs,
+      simp length-set (search needs),
+      rw p (listed-more (outsidePositions (a .heights .now) (a .choice .now)) (a .list .now) (pos (l .i))
+          (outsideDown S pos (l .i - 1)) (l .count) (l .list) (omega arith) f),
+    )
 
 loop-less-2 : tie.Need-loop-less-2 Inv-loop μ-loop
 loop-less-2 c = search needs
@@ -78,9 +88,12 @@ loop-again-2 : tie.Need-loop-again-2 Inv-loop μ-loop
 loop-again-2 c =
     let a = c .before .before .before .before .before .before .args in
     let l = c .before .before .before .before .loop in
-    let S : Choice = marked (a .marks .now) in
+    let S : Choice = flagged (a .choice .now) in
     let pos = positionAt (a .heights .now) in
-    let e : S (pos (l .i)) ≡ true = sym (ap S (c .before .before .position-at .ensures)) ∙ sym (c .before .is-inside .ensures) ∙ not-false (c .before .is-inside .result) (c .if1 .left) in
+    let e : S (pos (l .i)) ≡ true =
+    sym (ap S (c .before .before .position-at .ensures))
+    ∙ sym (c .before .is-inside .ensures)
+    ∙ not-false (c .before .is-inside .result) (c .if1 .left) in
     (search needs, search needs, search needs, rw (down-inside S pos (l .i) (omega arith) e) at (l .inv .3))
 
 returns : tie.Need-returns Inv-loop μ-loop
@@ -89,7 +102,7 @@ returns c =
     let a = c .before .before .before .args in
     let l = c .before .loop in
     let z : l .i ≡ 0 = omega arith in
-    let all : List ℕ = outsidePositions (a .heights .now) (a .marks .now) in
+    let all : List ℕ = outsidePositions (a .heights .now) (a .choice .now) in
     let f : Listed all (a .list .now) [] (l .count) (l .list) = rw z at (l .inv .3) in
     listed-whole all (a .list .now) (l .count) (l .list) f
 

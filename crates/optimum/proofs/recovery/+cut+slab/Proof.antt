@@ -1,4 +1,5 @@
--- `optimum::recovery::slab` and `cut` meet their contracts: what lies between a slab's ends falls, and the marks are the recovered choice's.
+-- `optimum::recovery::slab` and `cut` meet their contracts: what lies between a slab's ends falls, and the flags are the recovered
+-- choice's.
 -- Assumes nothing.
 use Prim.Native.Nat.{ℕ, _+_, _-_, _*_, _<_}
 use mathlib.Core.Path.{_≡_, _∙_}
@@ -8,8 +9,8 @@ use borrow.Author.Needs.{needs}
 use Rattle.orders.specs.Arrays.{heightsOf}
 use Rattle.optimum.specs.Table.{Opened}
 use Rattle.optimum.specs.Memo.{kept-refl, kept-trans}
-use Rattle.optimum.specs.Steps.{limit-few, open-candidate}
-use Rattle.optimum.specs.Recovery.{marked-zero, cut-opened, cut-low, cut-high, cut-marked}
+use Rattle.optimum.specs.Steps.{open-below-few, open-candidate}
+use Rattle.optimum.specs.Recovery.{flagged-zero, cut-opened, cut-low, cut-high, cut-flagged}
 use borrow.Fn.Kinds.{In}
 use borrow.Fn.PlainCycle.{Measures, is, falls, and}
 use Rattle.optimum.proofs.recovery.cut.Reads as cut
@@ -18,10 +19,10 @@ use Rattle.optimum.proofs.recovery.+cut+slab.Lts-cut as cut-lts
 use Rattle.optimum.proofs.recovery.slab.Reads as slab
 use Rattle.optimum.proofs.recovery.slab.Kinds as slab-kinds
 use Rattle.optimum.proofs.recovery.+cut+slab.Lts-slab as slab-lts
-use Rattle.optimum.proofs.conflicts.reaching_over.Reads as reaching-over-reads
+use Rattle.optimum.proofs.conflicts.reach.Reads as reach-reads
 use Rattle.optimum.proofs.points.at_rank.Reads as at-rank-reads
 use Rattle.optimum.proofs.recovery.cut_of.Reads as cut-of-reads
-use Rattle.optimum.proofs.recovery.mark_down.Reads as mark-down-reads
+use Rattle.optimum.proofs.recovery.flag_down.Reads as flag-down-reads
 use Rattle.optimum.proofs.recovery.+cut+slab.{statement}
 use Rattle.optimum.proofs.recovery.+cut+slab.Tie.{close}
 
@@ -45,15 +46,15 @@ slab-below t = and 3 slab-kinds.ps (falls 3 slab-kinds.ps _<_ μ-slab t) slab.Pr
 
 -- What each of the two knows of the functions that it calls.
 abbrev cut-calls : ℕ → cut-lts.Claims
-cut-calls t = (at-rank-reads.Asked, at-rank-reads.Learnt, reaching-over-reads.Asked, reaching-over-reads.Learnt, slab-below t, slab.Post)
+cut-calls t = (at-rank-reads.Asked, at-rank-reads.Learnt, reach-reads.Asked, reach-reads.Learnt, slab-below t, slab.Post)
 
 abbrev slab-calls : ℕ → slab-lts.Claims
-slab-calls t = (cut-of-reads.Asked, cut-of-reads.Learnt, mark-down-reads.Asked, mark-down-reads.Learnt, cut-below t, cut.Post)
+slab-calls t = (cut-of-reads.Asked, cut-of-reads.Learnt, flag-down-reads.Asked, flag-down-reads.Learnt, cut-below t, cut.Post)
 
 -- CUT
 
 cut-returns : (t : ℕ) → cut-lts.Need-returns (cut-calls t) (cut-at t) cut.Post
-cut-returns t c = record { marks = marked-zero _ _ _ _ (c .if1 .taken); kept = kept-refl (c .before .before .pre .1 .0 .asked .memo) }
+cut-returns t c = record { flagged = flagged-zero _ _ _ _ (c .if1 .taken); kept = kept-refl (c .before .before .pre .1 .0 .asked .memo) }
 
 cut-sub-at-rank : (t : ℕ) → cut-lts.Need-sub-at-rank (cut-calls t) (cut-at t) cut.Post
 cut-sub-at-rank t c = search needs
@@ -61,18 +62,19 @@ cut-sub-at-rank t c = search needs
 cut-at-rank-requires : (t : ℕ) → cut-lts.Need-at-rank-requires (cut-calls t) (cut-at t) cut.Post
 cut-at-rank-requires t c κs =
     let p = c .before .before .pre .1 in
-    omega (arith, p .1 .below, limit-few (p .0 .asked .ready))
+    omega (arith, p .1 .below, open-below-few (p .0 .asked .ready))
 
 -- the point that the slab is cut at is open
 here : (t : ℕ) (c : cut-lts.After-at-rank (cut-calls t) (cut-at t) cut.Post) →
     let start = c .before .before .before in
-    Opened (now (start .args .heights)) (start .args .state) (c .at-rank .result) × (heightsOf (now (start .args .heights)) .rank (c .at-rank .result) ≡ start .args .k - 1)
+    Opened (now (start .args .heights)) (start .args .whole) (c .at-rank .result)
+    × (heightsOf (now (start .args .heights)) .rank (c .at-rank .result) ≡ start .args .k - 1)
 here t c =
     let p = c .before .before .before .pre .1 in
     cut-opened (p .0) (p .1) (c .before .if1 .left) (c .at-rank .ensures .0)
 
-cut-reaching-over-requires : (t : ℕ) → cut-lts.Need-reaching-over-requires (cut-calls t) (cut-at t) cut.Post
-cut-reaching-over-requires t c κs =
+cut-reach-requires : (t : ℕ) → cut-lts.Need-reach-requires (cut-calls t) (cut-at t) cut.Post
+cut-reach-requires t c κs =
     let o = here t c .0 in
     (o .ready .packed, o .point, open-candidate o .fits, o .low)
 
@@ -92,8 +94,13 @@ cut-slab-requires-2 t c κs =
     let start = rank .before .before .before in
     let p = start .pre .1 in
     let o = here t rank .0 in
-    let below = low .slab .ensures in
-    (omega (arith, o .low, o .high, start .pre .0), (cut-high (p .0) (p .1) (rank .before .if1 .left) (rank .at-rank .ensures .0) (below .kept .memo) _ (over .reaching-over .ensures), below .marks .same ∙ p .2))
+    let below = low .slab .ensures in (
+      omega (arith, o .low, o .high, start .pre .0),
+      (
+        cut-high (p .0) (p .1) (rank .before .if1 .left) (rank .at-rank .ensures .0) (below .kept .memo) _ (over .reach .ensures),
+        below .flagged .same ∙ p .2,
+      ),
+    )
 
 cut-same-length : (t : ℕ) → cut-lts.Need-same-length (cut-calls t) (cut-at t) cut.Post
 cut-same-length t c =
@@ -109,7 +116,9 @@ cut-returns-2 t c =
     let rank = over .before in
     let p = rank .before .before .before .pre .1 in
     record {
-      marks = cut-marked (p .0) (p .1) (rank .before .if1 .left) (rank .at-rank .ensures .0) _ _ _ _ (over .reaching-over .ensures) (low .slab .ensures .marks) (high .slab2 .ensures .marks);
+      flagged =
+          cut-flagged (p .0) (p .1) (rank .before .if1 .left) (rank .at-rank .ensures .0) _ _ _ _
+          (over .reach .ensures) (low .slab .ensures .flagged) (high .slab2 .ensures .flagged);
       kept = kept-trans (low .slab .ensures .kept) (high .slab2 .ensures .kept);
     }
 
@@ -118,8 +127,8 @@ cut-returns-2 t c =
 slab-cut-of-requires : (t : ℕ) → slab-lts.Need-cut-of-requires (slab-calls t) (slab-at t) slab.Post
 slab-cut-of-requires t c κs = c .before .before .pre .1 .0
 
-slab-mark-down-requires : (t : ℕ) → slab-lts.Need-mark-down-requires (slab-calls t) (slab-at t) slab.Post
-slab-mark-down-requires t c κs =
+slab-flag-down-requires : (t : ℕ) → slab-lts.Need-flag-down-requires (slab-calls t) (slab-at t) slab.Post
+slab-flag-down-requires t c κs =
     let found = c .before .before .before in
     let p = found .before .before .before .pre .1 in
     (p .0 .asked .ready, found .cut-of .ensures .0, p .1)
@@ -129,8 +138,14 @@ slab-cut-requires t c κs =
     let down = c .before .before in
     let found = down .before .before .before .before in
     let start = found .before .before .before in
-    let p = start .pre .1 in
-    (omega (arith, start .pre .0), (record { asked = record { ready = p .0 .asked .ready; memo = found .cut-of .ensures .1 .memo }; some = p .0 .some }, found .cut-of .ensures .0, down .mark-down .ensures .same ∙ p .1))
+    let p = start .pre .1 in (
+      omega (arith, start .pre .0),
+      (
+        record { asked = record { ready = p .0 .asked .ready; memo = found .cut-of .ensures .1 .memo }; some = p .0 .some },
+        found .cut-of .ensures .0,
+        down .flag-down .ensures .same ∙ p .1,
+      ),
+    )
 
 slab-same-length : (t : ℕ) → slab-lts.Need-same-length (slab-calls t) (slab-at t) slab.Post
 slab-same-length t c =
@@ -143,7 +158,10 @@ slab-returns t c =
     let cut = c .before .before in
     let down = cut .before .before .before in
     let found = down .before .before .before .before in
-    record { marks = down .mark-down .ensures .whole _ (cut .cut .ensures .marks); kept = kept-trans (found .cut-of .ensures .1) (cut .cut .ensures .kept) }
+    record {
+      flagged = down .flag-down .ensures .whole _ (cut .cut .ensures .flagged);
+      kept = kept-trans (found .cut-of .ensures .1) (cut .cut .ensures .kept);
+    }
 
 pub +cut+slab-spec : {M : Type 1} → statement M
 +cut+slab-spec = close μ-cut μ-slab (λ t. cut-lts.spec (cut-calls t)
@@ -152,7 +170,7 @@ pub +cut+slab-spec : {M : Type 1} → statement M
     (cut-returns t)
     (cut-sub-at-rank t)
     (cut-at-rank-requires t)
-    (cut-reaching-over-requires t)
+    (cut-reach-requires t)
     (cut-slab-requires t)
     (cut-slab-requires-2 t)
     (cut-same-length t)
@@ -161,7 +179,7 @@ pub +cut+slab-spec : {M : Type 1} → statement M
     (slab-at t)
     slab.Post
     (slab-cut-of-requires t)
-    (slab-mark-down-requires t)
+    (slab-flag-down-requires t)
     (slab-cut-requires t)
     (slab-same-length t)
     (slab-returns t)

@@ -21,10 +21,17 @@ add-result : tie.Need-add-result
 add-result c = search needs
 
 add-result-2 : tie.Need-add-result-2
-add-result-2 c = omega (arith, place-sum (c .before .before .before .before .before .pre) (c .before .before .before .tetrahedral .result) (c .before .triangular .result) (c .before .before .before .tetrahedral .ensures .0) (c .before .triangular .ensures .0) .1)
+add-result-2 c =
+    omega (
+      arith,
+      place-sum (c .before .before .before .before .before .pre) (c .before .before .before .tetrahedral .result)
+          (c .before .triangular .result) (c .before .before .before .tetrahedral .ensures .0) (c .before .triangular .ensures .0) .1,
+    )
 
 returns : tie.Need-returns
-returns c = place-sum (c .before .before .before .before .before .pre) _ _ (c .before .before .before .tetrahedral .ensures .0) (c .before .triangular .ensures .0)
+returns c =
+    place-sum (c .before .before .before .before .before .pre) _ _ (c .before .before .before .tetrahedral .ensures .0)
+    (c .before .triangular .ensures .0)
 
 pub place-spec : {M : Type 1} → statement M
 place-spec =

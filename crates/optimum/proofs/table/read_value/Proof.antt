@@ -1,5 +1,5 @@
 -- `optimum::table::read_value` meets its contract: the cells are those that `valueAt` reads. Assumes nothing.
-use Rattle.optimum.specs.Words.{valueAt}
+use Rattle.orders.specs.Words.{valueAt}
 use borrow.Author.Needs.{needs}
 use Rattle.optimum.proofs.table.read_value.Statement.{statement}
 use Rattle.optimum.proofs.table.read_value.Tie as tie

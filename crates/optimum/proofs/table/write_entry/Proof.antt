@@ -2,7 +2,8 @@
 use mathlib.Core.Path.{ap}
 use lib.ListN.{set}
 use Prim.Native.Nat.{_+_}
-use Rattle.optimum.specs.Words.{withEntry}
+use Rattle.optimum.specs.Places.{notes}
+use Rattle.optimum.specs.Entries.{withEntry}
 use borrow.Author.Needs.{needs}
 use Rattle.optimum.proofs.table.write_entry.Statement.{statement}
 use Rattle.optimum.proofs.table.write_entry.Tie as tie
@@ -32,7 +33,7 @@ returns : tie.Need-returns
 unfolding withEntry
 returns c =
     let args = c .before .before .before .before .before .before .args in
-    ap (λ t. set t (26180 + args .place) (args .found .cut + 1)) (c .before .before .before .write-value .ensures)
+    ap (λ t. set t (notes + args .place) (args .found .cut + 1)) (c .before .before .before .write-value .ensures)
 
 pub write-entry-spec : {M : Type 1} → statement M
 write-entry-spec =

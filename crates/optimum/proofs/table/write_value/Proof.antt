@@ -1,5 +1,5 @@
 -- `optimum::table::write_value` meets its contract: the stores are those of `withValue`. Assumes nothing.
-use Rattle.optimum.specs.Words.{withValue}
+use Rattle.orders.specs.Words.{withValue}
 use native.Mathlib.Omega.{arith}
 use lib.ListN.{length-set}
 use borrow.Author.Needs.{needs}

@@ -8,7 +8,8 @@ use borrow.Author.Needs.{needs}
 use borrow.Author.Tests.{not-true, not-false}
 use Rattle.orders.specs.Arrays.{heightsOf}
 use Rattle.optimum.specs.Table.{Running, Kept, Asked, Valued, Opened}
-use Rattle.optimum.specs.Steps.{ends-small, limit-few, opened, open-small, open-candidate, open-weight, ready-low, ready-high, low-value, high-value, low-small, high-small, out-cut, out-none}
+use Rattle.optimum.specs.Steps.{ends-small, open-below-few, opened, open-small, open-candidate, open-weight}
+use Rattle.optimum.specs.Steps.{ready-low, ready-high, low-value, high-value, low-small, high-small, out-cut, out-none}
 use Rattle.optimum.specs.Running.{step-skip, step-safe, step-stop, step-on, settled-none, running-first, running-prev, running-last}
 use Rattle.optimum.specs.Memo.{memo-value, memo-stored, valued-after, kept-refl, kept-trans}
 use borrow.Fn.Kinds.{In}
@@ -26,11 +27,11 @@ use Rattle.optimum.proofs.values.value_of.Reads as value-of
 use Rattle.optimum.proofs.values.value_of.Kinds as value-of-kinds
 use Rattle.optimum.proofs.values.+entry+outside_value+step+value_of.Lts-value_of as value-of-lts
 use Rattle.optimum.proofs.conflicts.may_be_inside.Reads as may-be-inside-reads
-use Rattle.optimum.proofs.conflicts.reaching_over.Reads as reaching-over-reads
+use Rattle.optimum.proofs.conflicts.reach.Reads as reach-reads
 use Rattle.optimum.proofs.conflicts.rows_differ.Reads as rows-differ-reads
 use Rattle.optimum.proofs.points.at_rank.Reads as at-rank-reads
 use Rattle.optimum.proofs.points.weight_at.Reads as weight-at-reads
-use Rattle.optimum.proofs.table.is_between.Reads as is-between-reads
+use Rattle.optimum.proofs.table.between.Reads as between-reads
 use Rattle.optimum.proofs.table.place.Reads as place-reads
 use Rattle.optimum.proofs.table.read_note.Reads as read-note-reads
 use Rattle.optimum.proofs.table.read_value.Reads as read-value-reads
@@ -90,19 +91,54 @@ abbrev entry-calls : ℕ → entry-lts.Claims
 entry-calls t = (open-below-reads.Asked, open-below-reads.Learnt, step-below t, step.Post, better-reads.Asked, better-reads.Learnt)
 
 abbrev outside-value-calls : ℕ → outside-value-lts.Claims
-outside-value-calls t = (rows-differ-reads.Asked, rows-differ-reads.Learnt, reaching-over-reads.Asked, reaching-over-reads.Learnt, value-of-below t, value-of.Post, joined-reads.Asked, joined-reads.Learnt)
+outside-value-calls t = (
+  rows-differ-reads.Asked,
+  rows-differ-reads.Learnt,
+  reach-reads.Asked,
+  reach-reads.Learnt,
+  value-of-below t,
+  value-of.Post,
+  joined-reads.Asked,
+  joined-reads.Learnt,
+)
 
 abbrev step-calls : ℕ → step-lts.Claims
-step-calls t = (at-rank-reads.Asked, at-rank-reads.Learnt, is-between-reads.Asked, is-between-reads.Learnt, may-be-inside-reads.Asked, may-be-inside-reads.Learnt, is-safe-reads.Asked, is-safe-reads.Learnt, weight-at-reads.Asked, weight-at-reads.Learnt, outside-value-below t, outside-value.Post, better-reads.Asked, better-reads.Learnt)
+step-calls t = (
+  at-rank-reads.Asked,
+  at-rank-reads.Learnt,
+  between-reads.Asked,
+  between-reads.Learnt,
+  may-be-inside-reads.Asked,
+  may-be-inside-reads.Learnt,
+  is-safe-reads.Asked,
+  is-safe-reads.Learnt,
+  weight-at-reads.Asked,
+  weight-at-reads.Learnt,
+  outside-value-below t,
+  outside-value.Post,
+  better-reads.Asked,
+  better-reads.Learnt,
+)
 
 abbrev value-of-calls : ℕ → value-of-lts.Claims
-value-of-calls t = (place-reads.Asked, place-reads.Learnt, read-note-reads.Asked, read-note-reads.Learnt, read-value-reads.Asked, read-value-reads.Learnt, entry-below t, entry.Post, write-entry-reads.Asked, write-entry-reads.Learnt)
+value-of-calls t = (
+  place-reads.Asked,
+  place-reads.Learnt,
+  read-note-reads.Asked,
+  read-note-reads.Learnt,
+  read-value-reads.Asked,
+  read-value-reads.Learnt,
+  entry-below t,
+  entry.Post,
+  write-entry-reads.Asked,
+  write-entry-reads.Learnt,
+)
 
 abbrev entry-Inv-loop : entry-lts.InvT-loop
-entry-Inv-loop heights table₀ state t₀ run₀ table t run = Running (heightsOf heights) state t run × Kept heights table₀ table
+entry-Inv-loop heights table₀ slab t₀ run₀ table t run = Running (heightsOf heights) slab t run × Kept heights table₀ table
 
 abbrev entry-μ-loop : entry-lts.MeasureT-loop
-entry-μ-loop heights table₀ state t₀ run₀ table t run = t
+entry-μ-loop heights table₀ slab t₀ run₀ table t run = t
 
 -- ENTRY
 
@@ -118,7 +154,7 @@ entry-open-below-requires t c κs = ends-small (c .before .before .before .pre .
 entry-loop-holds : (t : ℕ) → entry-lts.Need-loop-holds (entry-calls t) (entry-at t) entry.Post entry-Inv-loop entry-μ-loop
 entry-loop-holds t c =
     let asked = c .before .before .before .before .pre .1 in
-    (running-first _ _ _ (c .open-below .ensures) (limit-few (asked .ready)), kept-refl (asked .memo))
+    (running-first _ _ _ (c .open-below .ensures) (open-below-few (asked .ready)), kept-refl (asked .memo))
 
 entry-sub-t : (t : ℕ) → entry-lts.Need-sub-t (entry-calls t) (entry-at t) entry.Post entry-Inv-loop entry-μ-loop
 entry-sub-t t c = search needs
@@ -127,8 +163,10 @@ entry-step-requires : (t : ℕ) → entry-lts.Need-step-requires (entry-calls t)
 entry-step-requires t c κs =
     let loop = c .before .before in
     let start = loop .before .before .before .before .before in
-    let inv = loop .loop .inv in
-    (omega (arith, start .pre .0), (record { ready = start .pre .1 .ready; memo = inv .1 .memo }, running-prev (c .before .loop-test .taken) (inv .0)))
+    let inv = loop .loop .inv in (
+      omega (arith, start .pre .0),
+      (record { ready = start .pre .1 .ready; memo = inv .1 .memo }, running-prev (c .before .loop-test .taken) (inv .0)),
+    )
 
 -- what a step keeps of the table, from the start of the loop on
 kept-so-far : (t : ℕ) (c : entry-lts.After-step (entry-calls t) (entry-at t) entry.Post entry-Inv-loop entry-μ-loop) →
@@ -166,7 +204,8 @@ entry-returns-3 t c =
 
 -- WHAT A POINT GIVES OUTSIDE
 
-outside-value-rows-differ-requires : (t : ℕ) → outside-value-lts.Need-rows-differ-requires (outside-value-calls t) (outside-value-at t) outside-value.Post
+outside-value-rows-differ-requires : (t : ℕ)
+    → outside-value-lts.Need-rows-differ-requires (outside-value-calls t) (outside-value-at t) outside-value.Post
 outside-value-rows-differ-requires t c κs =
     let o = c .before .pre .1 .opened in
     (open-small o, ends-small (o .ready) .1)
@@ -174,35 +213,48 @@ outside-value-rows-differ-requires t c κs =
 outside-value-returns : (t : ℕ) → outside-value-lts.Need-returns (outside-value-calls t) (outside-value-at t) outside-value.Post
 outside-value-returns t c =
     let cutting = c .before .before .before .pre .1 in
-    record { is = out-none (cutting .opened) _ (sym (c .before .rows-differ .ensures) ∙ not-true _ (c .if1 .taken)); kept = kept-refl (cutting .memo) }
+    record {
+      is = out-none (cutting .opened) _ (sym (c .before .rows-differ .ensures) ∙ not-true _ (c .if1 .taken));
+      kept = kept-refl (cutting .memo);
+    }
 
-outside-value-reaching-over-requires : (t : ℕ) → outside-value-lts.Need-reaching-over-requires (outside-value-calls t) (outside-value-at t) outside-value.Post
-outside-value-reaching-over-requires t c κs =
+outside-value-reach-requires : (t : ℕ)
+    → outside-value-lts.Need-reach-requires (outside-value-calls t) (outside-value-at t) outside-value.Post
+outside-value-reach-requires t c κs =
     let o = c .before .before .before .pre .1 .opened in
     (o .ready .packed, o .point, open-candidate o .fits, o .low)
 
-outside-value-value-of-requires : (t : ℕ) → outside-value-lts.Need-value-of-requires (outside-value-calls t) (outside-value-at t) outside-value.Post
+outside-value-value-of-requires : (t : ℕ)
+    → outside-value-lts.Need-value-of-requires (outside-value-calls t) (outside-value-at t) outside-value.Post
 outside-value-value-of-requires t c κs =
     let start = c .before .before .before .before .before in
     let o = start .pre .1 .opened in
     (omega (arith, o .low, o .high, start .pre .0), record { ready = ready-low o; memo = start .pre .1 .memo })
 
-outside-value-value-of-requires-2 : (t : ℕ) → outside-value-lts.Need-value-of-requires-2 (outside-value-calls t) (outside-value-at t) outside-value.Post
+outside-value-value-of-requires-2 : (t : ℕ)
+    → outside-value-lts.Need-value-of-requires-2 (outside-value-calls t) (outside-value-at t) outside-value.Post
 outside-value-value-of-requires-2 t c κs =
     let low = c .before .before .before in
     let over = low .before .before in
     let start = over .before .before .before .before in
-    let o = start .pre .1 .opened in
-    (omega (arith, o .low, o .high, start .pre .0), record { ready = ready-high o _ (over .reaching-over .ensures); memo = low .value-of .ensures .kept .memo })
+    let o = start .pre .1 .opened in (
+      omega (arith, o .low, o .high, start .pre .0),
+      record { ready = ready-high o _ (over .reach .ensures); memo = low .value-of .ensures .kept .memo },
+    )
 
-outside-value-joined-requires : (t : ℕ) → outside-value-lts.Need-joined-requires (outside-value-calls t) (outside-value-at t) outside-value.Post
+outside-value-joined-requires : (t : ℕ)
+    → outside-value-lts.Need-joined-requires (outside-value-calls t) (outside-value-at t) outside-value.Post
 outside-value-joined-requires t c κs =
     let high = c .before .before in
     let low = high .before .before .before .before in
     let over = low .before .before in
     let cutting = over .before .before .before .before .pre .1 in
-    let o = cutting .opened in
-    (cutting .some, cutting .room, low-small o _ (low-value o _ (low .value-of .ensures .is)), high-small o _ (high-value o _ _ (high .value-of2 .ensures .is) (over .reaching-over .ensures)))
+    let o = cutting .opened in (
+      cutting .some,
+      cutting .room,
+      low-small o _ (low-value o _ (low .value-of .ensures .is)),
+      high-small o _ (high-value o _ _ (high .value-of2 .ensures .is) (over .reach .ensures)),
+    )
 
 outside-value-same-length : (t : ℕ) → outside-value-lts.Need-same-length (outside-value-calls t) (outside-value-at t) outside-value.Post
 outside-value-same-length t c =
@@ -218,7 +270,9 @@ outside-value-returns-2 t c =
     let o = over .before .before .before .before .pre .1 .opened in
     let differ = sym (over .before .before .rows-differ .ensures) ∙ not-false _ (over .before .if1 .left) in
     record {
-      is = out-cut o _ _ _ _ differ (c .joined .ensures) (low-value o _ (low .value-of .ensures .is)) (high-value o _ _ (high .value-of2 .ensures .is) (over .reaching-over .ensures));
+      is =
+          out-cut o _ _ _ _ differ (c .joined .ensures) (low-value o _ (low .value-of .ensures .is))
+          (high-value o _ _ (high .value-of2 .ensures .is) (over .reach .ensures));
       kept = kept-trans (low .value-of .ensures .kept) (high .value-of2 .ensures .kept);
     }
 
@@ -227,23 +281,26 @@ outside-value-returns-2 t c =
 -- the point is open in the slab
 here : (t : ℕ) (c : step-lts.Else1 (step-calls t) (step-at t) step.Post) →
     let start = c .before .before .before .before in
-    Opened (now (start .args .heights)) (start .args .state) (c .before .before .at-rank .result) × (heightsOf (now (start .args .heights)) .rank (c .before .before .at-rank .result) ≡ start .args .t)
+    Opened (now (start .args .heights)) (start .args .slab) (c .before .before .at-rank .result)
+    × (heightsOf (now (start .args .heights)) .rank (c .before .before .at-rank .result) ≡ start .args .t)
 here t c =
     let p = c .before .before .before .before .pre .1 in
-    opened (p .0 .ready) _ _ (omega (arith, p .1 .below)) (c .before .before .at-rank .ensures .0) (sym (c .before .is-between .ensures) ∙ not-false _ (c .if1 .left))
+    opened (p .0 .ready) _ _ (omega (arith, p .1 .below)) (c .before .before .at-rank .ensures .0)
+    (sym (c .before .between .ensures) ∙ not-false _ (c .if1 .left))
 
 step-at-rank-requires : (t : ℕ) → step-lts.Need-at-rank-requires (step-calls t) (step-at t) step.Post
 step-at-rank-requires t c κs =
     let p = c .before .pre .1 in
-    omega (arith, p .1 .below, limit-few (p .0 .ready))
+    omega (arith, p .1 .below, open-below-few (p .0 .ready))
 
-step-is-between-requires : (t : ℕ) → step-lts.Need-is-between-requires (step-calls t) (step-at t) step.Post
-step-is-between-requires t c κs = c .before .before .pre .1 .0 .ready .proper .order
+step-between-requires : (t : ℕ) → step-lts.Need-between-requires (step-calls t) (step-at t) step.Post
+step-between-requires t c κs = c .before .before .pre .1 .0 .ready .proper .order
 
 step-returns : (t : ℕ) → step-lts.Need-returns (step-calls t) (step-at t) step.Post
 step-returns t c =
     let p = c .before .before .before .before .pre .1 in
-    step-skip _ (c .before .before .at-rank .ensures .0) (sym (c .before .is-between .ensures) ∙ not-true _ (c .if1 .taken)) (p .1) (kept-refl (p .0 .memo))
+    step-skip _ (c .before .before .at-rank .ensures .0) (sym (c .before .between .ensures) ∙ not-true _ (c .if1 .taken))
+    (p .1) (kept-refl (p .0 .memo))
 
 step-may-be-inside-requires : (t : ℕ) → step-lts.Need-may-be-inside-requires (step-calls t) (step-at t) step.Post
 step-may-be-inside-requires t c κs =
@@ -261,7 +318,14 @@ step-weight-at-requires t c κs = open-small (here t (c .before .before .before 
 step-add-t15 : (t : ℕ) → step-lts.Need-add-t15 (step-calls t) (step-at t) step.Post
 step-add-t15 t c =
     let left = c .before .before .before .before .before .before in
-    record { fits = omega (arith, open-weight (here t left .0) (c .before .weight-at .result) (c .before .weight-at .ensures), left .before .before .before .before .pre .1 .1 .room) }
+    record {
+      fits =
+          omega (
+            arith,
+            open-weight (here t left .0) (c .before .weight-at .result) (c .before .weight-at .ensures),
+            left .before .before .before .before .pre .1 .1 .room,
+          );
+    }
 
 step-returns-2 : (t : ℕ) → step-lts.Need-returns-2 (step-calls t) (step-at t) step.Post
 step-returns-2 t c =
@@ -269,20 +333,23 @@ step-returns-2 t c =
     let inside = safe .before in
     let left = inside .before .before in
     let p = left .before .before .before .before .pre .1 in
-    step-safe (here t left) (p .1) (kept-refl (p .0 .memo)) _ (inside .may-be-inside .ensures) _ (safe .is-safe .ensures) (c .before .before .if2 .taken) _ (c .before .weight-at .ensures)
+    step-safe (here t left) (p .1) (kept-refl (p .0 .memo)) _ (inside .may-be-inside .ensures) _
+    (safe .is-safe .ensures) (c .before .before .if2 .taken) _ (c .before .weight-at .ensures)
 
 step-outside-value-requires : (t : ℕ) → step-lts.Need-outside-value-requires (step-calls t) (step-at t) step.Post
 step-outside-value-requires t c κs =
     let left = c .before .before .before .before .before in
     let start = left .before .before .before .before in
-    let p = start .pre .1 in
-    (omega (arith, start .pre .0), record { opened = here t left .0; memo = p .0 .memo; some = p .1 .some; room = omega (arith, p .1 .room) })
+    let p = start .pre .1 in (
+      omega (arith, start .pre .0),
+      record { opened = here t left .0; memo = p .0 .memo; some = p .1 .some; room = omega (arith, p .1 .room) },
+    )
 
 step-add-t19 : (t : ℕ) → step-lts.Need-add-t19 (step-calls t) (step-at t) step.Post
 step-add-t19 t c =
     let left = c .before .before .before .before .before .before .before .before in
     let p = left .before .before .before .before .pre .1 in
-    record { fits = omega (arith, p .1 .below, limit-few (p .0 .ready)) }
+    record { fits = omega (arith, p .1 .below, open-below-few (p .0 .ready)) }
 
 step-better-requires : (t : ℕ) → step-lts.Need-better-requires (step-calls t) (step-at t) step.Post
 step-better-requires t c κs = search needs
@@ -297,15 +364,24 @@ step-returns-3 t c =
     let inside = better .before .before .before .before .before .before .before in
     let left = inside .before .before in
     let p = left .before .before .before .before .pre .1 in
-    step-stop (here t left) (p .1) (out .kept) _ (inside .may-be-inside .ensures) _ (out .is) refl _ (better .better .ensures) _ (c .if3 .taken)
+    step-stop (here t left) (p .1) (out .kept) _ (inside .may-be-inside .ensures) _ (out .is)
+    refl _ (better .better .ensures) _ (c .if3 .taken)
 
 step-weight-at-requires-2 : (t : ℕ) → step-lts.Need-weight-at-requires-2 (step-calls t) (step-at t) step.Post
-step-weight-at-requires-2 t c κs = open-small (here t (c .before .before .before .before .before .before .before .before .before .before) .0)
+step-weight-at-requires-2 t c κs =
+    open-small (here t (c .before .before .before .before .before .before .before .before .before .before) .0)
 
 step-add-t20 : (t : ℕ) → step-lts.Need-add-t20 (step-calls t) (step-at t) step.Post
 step-add-t20 t c =
     let left = c .before .before .before .before .before .before .before .before .before .before .before .before in
-    record { fits = omega (arith, open-weight (here t left .0) (c .before .weight-at2 .result) (c .before .weight-at2 .ensures), left .before .before .before .before .pre .1 .1 .room) }
+    record {
+      fits =
+          omega (
+            arith,
+            open-weight (here t left .0) (c .before .weight-at2 .result) (c .before .weight-at2 .ensures),
+            left .before .before .before .before .pre .1 .1 .room,
+          );
+    }
 
 step-same-length-2 : (t : ℕ) → step-lts.Need-same-length-2 (step-calls t) (step-at t) step.Post
 step-same-length-2 t c = c .before .before .before .before .before .before .outside-value .ensures .kept .same
@@ -317,7 +393,8 @@ step-returns-4 t c =
     let inside = better .before .before .before .before .before .before .before in
     let left = inside .before .before in
     let p = left .before .before .before .before .pre .1 in
-    step-on (here t left) (p .1) (out .kept) _ (inside .may-be-inside .ensures) _ (out .is) refl _ (better .better .ensures) _ (c .before .before .if3 .left) (c .before .weight-at2 .ensures)
+    step-on (here t left) (p .1) (out .kept) _ (inside .may-be-inside .ensures) _ (out .is) refl _
+    (better .better .ensures) _ (c .before .before .if3 .left) (c .before .weight-at2 .ensures)
 
 -- THE VALUE
 
@@ -339,7 +416,8 @@ value-of-returns : (t : ℕ) → value-of-lts.Need-returns (value-of-calls t) (v
 value-of-returns t c =
     let note = c .before .before .before in
     let place = note .before .before in
-    memo-value (place .before .before .pre .1) _ _ _ (note .read-note .ensures .0) (c .read-value .ensures) (place .place .ensures .0) (c .before .before .if1 .taken)
+    memo-value (place .before .before .pre .1) _ _ _ (note .read-note .ensures .0) (c .read-value .ensures)
+    (place .place .ensures .0) (c .before .before .if1 .taken)
 
 value-of-entry-requires : (t : ℕ) → value-of-lts.Need-entry-requires (value-of-calls t) (value-of-at t) value-of.Post
 value-of-entry-requires t c κs =
@@ -351,19 +429,21 @@ value-of-write-entry-requires t c κs =
     let entry = c .before .before .before in
     let place = entry .before .before .before .before .before in
     let ready = place .before .before .pre .1 .ready in
-    (place .place .ensures .1, entry .entry .ensures .1 .memo .room, omega (arith, entry .entry .ensures .0 .below, limit-few ready))
+    (place .place .ensures .1, entry .entry .ensures .1 .memo .room, omega (arith, entry .entry .ensures .0 .below, open-below-few ready))
 
 -- the table with the new entry
 value-of-stored : (t : ℕ) (c : value-of-lts.After-slice-known3 (value-of-calls t) (value-of-at t) value-of.Post) →
     let entry = c .before .before .before .before .before .before in
     let start = entry .before .before .before .before .before .before .before in
-    Valued (now (start .args .heights)) (start .args .state) (entry .entry .result .value) (now (start .args .table)) (c .before .before .write-entry .last .0)
+    Valued (now (start .args .heights)) (start .args .slab) (entry .entry .result .value)
+    (now (start .args .table)) (c .before .before .write-entry .last .0)
 value-of-stored t c =
     let entry = c .before .before .before .before .before .before in
     let place = entry .before .before .before .before .before .place .ensures in
     let ready = entry .before .before .before .before .before .before .before .pre .1 .ready in
     let found = entry .entry .ensures in
-    rw (c .before .before .write-entry .ensures) (valued-after (found .1) (memo-stored ready (found .1 .memo) _ (found .0) _ (place .0) (place .1)))
+    rw (c .before .before .write-entry .ensures)
+    (valued-after (found .1) (memo-stored ready (found .1 .memo) _ (found .0) _ (place .0) (place .1)))
 
 value-of-same-length-2 : (t : ℕ) → value-of-lts.Need-same-length-2 (value-of-calls t) (value-of-at t) value-of.Post
 value-of-same-length-2 t c = value-of-stored t c .kept .same
@@ -396,7 +476,7 @@ pub +entry+outside-value+step+value-of-spec : {M : Type 1} → statement M
     outside-value.Post
     (outside-value-rows-differ-requires t)
     (outside-value-returns t)
-    (outside-value-reaching-over-requires t)
+    (outside-value-reach-requires t)
     (outside-value-value-of-requires t)
     (outside-value-value-of-requires-2 t)
     (outside-value-joined-requires t)
@@ -406,7 +486,7 @@ pub +entry+outside-value+step+value-of-spec : {M : Type 1} → statement M
     (step-at t)
     step.Post
     (step-at-rank-requires t)
-    (step-is-between-requires t)
+    (step-between-requires t)
     (step-returns t)
     (step-may-be-inside-requires t)
     (step-is-safe-requires t)

@@ -1,5 +1,5 @@
 -- `optimum::values::open_below` meets its contract: the lesser rank. Assumes nothing.
-use Rattle.optimum.specs.Slabs.{limit}
+use Rattle.optimum.specs.Slabs.{openBelow}
 use borrow.Author.Needs.{needs}
 use Rattle.optimum.proofs.values.open_below.Statement.{statement}
 use Rattle.optimum.proofs.values.open_below.Tie as tie
@@ -14,7 +14,7 @@ lesser-requires : tie.Need-lesser-requires
 lesser-requires c κs = search needs
 
 returns : tie.Need-returns
-unfolding limit
+unfolding openBelow
 returns c = rw (c .lesser .ensures, c .before .before .rank-at .ensures .0, c .before .rank-at2 .ensures .0)
 
 pub open-below-spec : {M : Type 1} → statement M

@@ -1,12 +1,12 @@
--- `optimum::values::reaches_none` meets its contract: the label reaches over none of the points passed. Assumes nothing.
+-- `optimum::values::unreached` meets its contract: the label reaches over none of the points passed. Assumes nothing.
 use Prim.Native.Nat.{suc, _-_, _≤_}
 use mathlib.Core.Path.{sym, _∙_}
 use native.Mathlib.Omega.{arith}
 use borrow.Author.Needs.{needs}
 use Rattle.orders.specs.Arrays.{heightsOf}
 use Rattle.optimum.specs.Conflicts.{Climbing, climbing-first, climbing-below, climbing-reached, climbing-next, climbing-last}
-use Rattle.optimum.proofs.values.reaches_none.Statement.{statement}
-use Rattle.optimum.proofs.values.reaches_none.Tie as tie
+use Rattle.optimum.proofs.values.unreached.Statement.{statement}
+use Rattle.optimum.proofs.values.unreached.Tie as tie
 
 abbrev Inv-loop : tie.InvT-loop
 Inv-loop heights p b y₀ y = Climbing (heightsOf heights) p b y
@@ -33,7 +33,8 @@ returns : tie.Need-returns Inv-loop μ-loop
 returns c =
     let at = c .before .before .before in
     let p = at .before .pre in
-    climbing-below (p .0 .sorted) (p .1) (upper at) (at .loop .inv) (c .before .before .loop-test .taken) (sym (c .before .label-below .ensures) ∙ c .if1 .taken)
+    climbing-below (p .0 .sorted) (p .1) (upper at) (at .loop .inv) (c .before .before .loop-test .taken)
+    (sym (c .before .label-below .ensures) ∙ c .if1 .taken)
 
 reaches-over-requires : tie.Need-reaches-over-requires Inv-loop μ-loop
 reaches-over-requires c κs =
@@ -46,7 +47,8 @@ returns-2 c =
     let test = c .before .before .before .before in
     let at = test .before in
     let p = at .before .pre in
-    climbing-reached (p .0 .sorted) (p .1) (upper at) (at .loop .inv) (test .loop-test .taken) (sym (c .before .reaches-over .ensures) ∙ c .if2 .taken)
+    climbing-reached (p .0 .sorted) (p .1) (upper at) (at .loop .inv) (test .loop-test .taken)
+    (sym (c .before .reaches-over .ensures) ∙ c .if2 .taken)
 
 add-y-2 : tie.Need-add-y-2 Inv-loop μ-loop
 add-y-2 c = search needs
@@ -59,7 +61,8 @@ loop-again c =
     let test = c .before .before .before .before in
     let at = test .before in
     let p = at .before .pre in
-    climbing-next (p .0 .sorted) (p .1) (upper at) (at .loop .inv) (test .loop-test .taken) (sym (c .before .reaches-over .ensures) ∙ c .if2 .left)
+    climbing-next (p .0 .sorted) (p .1) (upper at) (at .loop .inv) (test .loop-test .taken)
+    (sym (c .before .reaches-over .ensures) ∙ c .if2 .left)
 
 returns-3 : tie.Need-returns-3 Inv-loop μ-loop
 returns-3 c =
@@ -67,8 +70,8 @@ returns-3 c =
     let p = at .before .pre in
     climbing-last (p .0 .sorted) (p .1) (upper at) (at .loop .inv) (c .loop-test .left)
 
-pub reaches-none-spec : {M : Type 1} → statement M
-reaches-none-spec =
+pub unreached-spec : {M : Type 1} → statement M
+unreached-spec =
     tie.close
     (tie.spec
     Inv-loop

@@ -1,9 +1,9 @@
--- `optimum::table::is_between` meets its contract, by the law of the distance that wraps round. Assumes nothing.
+-- `optimum::table::between` meets its contract, by the law of the distance that wraps round. Assumes nothing.
 use native.Mathlib.Omega.{arith}
 use borrow.Author.Needs.{needs}
 use Rattle.optimum.specs.Steps.{between-wrapped}
-use Rattle.optimum.proofs.table.is_between.Statement.{statement}
-use Rattle.optimum.proofs.table.is_between.Tie as tie
+use Rattle.optimum.proofs.table.between.Statement.{statement}
+use Rattle.optimum.proofs.table.between.Tie as tie
 
 add-first : tie.Need-add-first
 add-first c = search needs
@@ -17,5 +17,5 @@ sub-result c = search needs
 returns : tie.Need-returns
 returns c = between-wrapped _ _ _ _ (c .before .before .before .pre) (omega arith) (omega arith) (c .before .wrapping-sub-usize .ensures)
 
-pub is-between-spec : {M : Type 1} → statement M
-is-between-spec = tie.close (tie.spec add-first wrapping-sub-usize-requires sub-result returns)
+pub between-spec : {M : Type 1} → statement M
+between-spec = tie.close (tie.spec add-first wrapping-sub-usize-requires sub-result returns)
