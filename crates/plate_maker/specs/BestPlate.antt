@@ -45,7 +45,11 @@ module _ (s : List ℕ) (r : BestChoice) (a : Accepted s) (b : BestSplit s r) wh
   both-lengths = omega (arith, inside-length (b .choice) (pointCount s), inside-outside s (b .choice))
 
   -- THE PLATE OF THE TWO LISTS IS A BEST PLATE
-  pub best-written : (o o′ l m : List ℕ) (k : ℕ) → l ≡ insideBelow (b .choice) (pointCount s) → m ≡ outside (pointsOf s) (b .choice) → k ≡ length (plateOfLists s l m) → o′ ≡ plateOfLists s l m ++ drop (length (plateOfLists s l m)) o → (k ≡ bestLength s) × BestOutput s o o′
+  pub best-written : (o o′ l m : List ℕ) (k : ℕ) → l ≡ insideBelow (b .choice) (pointCount s) → m ≡ outside (pointsOf s) (b .choice)
+      → k ≡ length (plateOfLists s l m) → o′ ≡ plateOfLists s l m ++ drop (length (plateOfLists s l m)) o
+      → (k ≡ bestLength s) × BestOutput s o o′
   best-written o o′ l m k i e q f =
-      let p : plateOfLists s l m ≡ plateOf s (b .choice) = rw (i, e) (sym (plate-of-lists s (b .choice))) in
-      (q ∙ ap length p ∙ best-length s (b .choice) a (b .best), record { choice = b .choice; valid = b .valid; best = b .best; plate = rw p at f })
+      let p : plateOfLists s l m ≡ plateOf s (b .choice) = rw (i, e) (sym (plate-of-lists s (b .choice))) in (
+        q ∙ ap length p ∙ best-length s (b .choice) a (b .best),
+        record { choice = b .choice; valid = b .valid; best = b .best; plate = rw p at f },
+      )

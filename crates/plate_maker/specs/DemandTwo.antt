@@ -34,7 +34,13 @@ pub record DemandTwo : Type 0 where
 made-right : (s o w o′ w′ : List ℕ) (k : ℕ) → Making s o w (Made k) o′ w′ → MadeRight s (take k o′)
 made-right s o w o′ w′ k m =
     let b : BestOutput s o o′ = m .output in
-    let x : PlateOfChoice (take k o′) = record { sheet = s; choice = b .choice; accepted = none-sheet s .of (made-accepted m); valid = b .valid; plate = made-start m } in
+    let x : PlateOfChoice (take k o′) = record {
+      sheet = s;
+      choice = b .choice;
+      accepted = none-sheet s .of (made-accepted m);
+      valid = b .valid;
+      plate = made-start m;
+    } in
     let r : ReadRight (take k o′) = demand-two-reader (take k o′) in
     record { choice = b .choice; valid = b .valid; plate = made-start m; accepted = r .accepts .1 x; inside = r .inside x }
 

@@ -19,17 +19,17 @@ use Rattle.plate_maker.specs.declared.MakeAnswer.the-variants.{Made, Ref
 -- What an answer of making says: whether it is refused, the number of the first no (0 where nothing is refused), and the written length.
 pub record MakeOutcome : Type 0 where
   pub refused : Bool
-  pub number : ℕ
+  pub no : ℕ
   pub written : ℕ
 
 -- The cases of make's answer: "The first no ends the call with its number and a written length of 0".
 abbrev pub makeOutcome : MakeAnswer → MakeOutcome
-makeOutcome (Made written) = record { refused = false; number = 0; written = written }
-makeOutcome (Refused k) = record { refused = true; number = k; written = 0 }
+makeOutcome (Made written) = record { refused = false; no = 0; written = written }
+makeOutcome (Refused k) = record { refused = true; no = k; written = 0 }
 
 -- The outcome of making a plate of s, where the first no is k.
 abbrev pub makeOutcomeOf : List ℕ → ℕ → MakeOutcome
-makeOutcomeOf s k = record { refused = not (eqb k 0); number = k; written = cond (eqb k 0) (bestLength s) 0 }
+makeOutcomeOf s k = record { refused = not (eqb k 0); no = k; written = cond (eqb k 0) (bestLength s) 0 }
 
 -- Made: the output starts with the plate of a valid choice with the best count, and "bytes past its end are
 -- untouched". WHICH BEST CHOICE IT IS STAYS OPEN, because document 01 leaves it open: "Which best choice is returned is open where
@@ -48,5 +48,5 @@ OutputAfter s (Refused k) o o′ = o′ ≡ o
 -- THE PROMISE of make, on any sheet s, output o and workspace w: its answer, and what output and workspace hold afterwards.
 pub record Making (s o w : List ℕ) (answer : MakeAnswer) (o′ w′ : List ℕ) : Type 0 where
   pub outcome : makeOutcome answer ≡ makeOutcomeOf s (makingNo s (length o) (length w))
-  pub workspace : w′ ≡ workspaceAfter (makeOutcome answer .number) w
+  pub workspace : w′ ≡ workspaceAfter (makeOutcome answer .no) w
   pub output : OutputAfter s answer o o′

@@ -16,7 +16,8 @@ use Rattle.plate_maker.specs.declared.MakeAnswer.{MakeAnswer}
 use Rattle.plate_maker.specs.declared.MakeAnswer.the-variants.{Made, Refused}
 
 -- refused: everything is as it was
-pub refused-making : (s o w w′ : List ℕ) (k : ℕ) → k ≡ makingNo s (length o) (length w) → (k ≡ 0 → ⊥) → w′ ≡ workspaceAfter k w → Making s o w (Refused k) o w′
+pub refused-making : (s o w w′ : List ℕ) (k : ℕ) → k ≡ makingNo s (length o) (length w) → (k ≡ 0 → ⊥) → w′ ≡ workspaceAfter k w
+    → Making s o w (Refused k) o w′
 refused-making s o w w′ k e ne z = record {
   outcome = rw (← e, ne-eqb k 0 ne);
   workspace = z;
@@ -24,7 +25,8 @@ refused-making s o w w′ k e ne z = record {
 }
 
 -- made
-pub made-making : (s o w o′ w′ : List ℕ) (k r : ℕ) → k ≡ makingNo s (length o) (length w) → k ≡ 0 → w′ ≡ workspaceAfter k w → r ≡ bestLength s → BestOutput s o o′ → Making s o w (Made r) o′ w′
+pub made-making : (s o w o′ w′ : List ℕ) (k r : ℕ) → k ≡ makingNo s (length o) (length w) → k ≡ 0
+    → w′ ≡ workspaceAfter k w → r ≡ bestLength s → BestOutput s o o′ → Making s o w (Made r) o′ w′
 made-making s o w o′ w′ k r e z f written output =
     let none : makingNo s (length o) (length w) ≡ 0 = sym e ∙ z in
     record { outcome = rw (none, written); workspace = rw z at f; output = output }
@@ -33,25 +35,29 @@ made-making s o w o′ w′ k r e z f written output =
 
 -- refused: the number is the first no's
 module _ {s o w o′ w′ : List ℕ} {k : ℕ} (m : Making s o w (Refused k) o′ w′) where
-  pub refused-number : k ≡ makingNo s (length o) (length w)
-  refused-number = λ i. m .outcome i .number
+  pub refused-no : k ≡ makingNo s (length o) (length w)
+  refused-no = λ i. m .outcome i .no
 
   pub refused-some : k ≡ 0 → ⊥
-  refused-some z = true≢false ((λ i. m .outcome i .refused) ∙ ap (λ (n : ℕ). makeOutcomeOf s n .refused) (sym refused-number ∙ z))
+  refused-some z = true≢false ((λ i. m .outcome i .refused) ∙ ap (λ (n : ℕ). makeOutcomeOf s n .refused) (sym refused-no ∙ z))
 
 -- made: the plate of the choice stands at the start of the output
 module _ {s o w o′ w′ : List ℕ} {k : ℕ} (m : Making s o w (Made k) o′ w′) where
   pub made-none : makingNo s (length o) (length w) ≡ 0
-  made-none = sym (λ i. m .outcome i .number)
+  made-none = sym (λ i. m .outcome i .no)
 
   pub made-accepted : Accepted s
   made-accepted = none-making s (length o) (length w) .is made-none .0
 
   made-length : length (plateOf s (m .output .choice)) ≡ k
-  made-length = best-length s (m .output .choice) made-accepted (m .output .best) ∙ sym ((λ i. m .outcome i .written) ∙ ap (λ (n : ℕ). makeOutcomeOf s n .written) made-none)
+  made-length =
+      best-length s (m .output .choice) made-accepted (m .output .best)
+      ∙ sym ((λ i. m .outcome i .written) ∙ ap (λ (n : ℕ). makeOutcomeOf s n .written) made-none)
 
   pub made-start : take k o′ ≡ plateOf s (m .output .choice)
-  made-start = ap (take k) (m .output .plate) ∙ take-at (plateOf s (m .output .choice)) (drop (length (plateOf s (m .output .choice))) o) k made-length
+  made-start =
+      ap (take k) (m .output .plate)
+      ∙ take-at (plateOf s (m .output .choice)) (drop (length (plateOf s (m .output .choice))) o) k made-length
 
   within : k ≤ length o′
   within =

@@ -8,7 +8,7 @@ use lib.Dec.{eqb}
 use borrow.Author.Tests.{ne-eqb}
 use lib.ListN.{length, set, drop, length-append}
 use Rattle.labeling.specs.Points.{Points, placedFrom, placed}
-use Rattle.labeling.specs.Tests.{decide}
+use Rattle.labeling.specs.Decide.{decide}
 use Rattle.labeling.specs.Margin.{next-most}
 use Rattle.format.specs.Sheet.{pointsOf}
 use Rattle.format.specs.Plate.{pairs}
@@ -23,7 +23,9 @@ unfolding placedAfter marginAfter placed
 placed-first P j k [] = refl
 placed-first P j k (i ∷ l) = refl
 
-pub placed-next : (P : Points) (count j k i : ℕ) (l : List ℕ) → placedAfter P count j k (i ∷ l) ≡ record { position = i; margin = marginAfter P count j k i } ∷ placedAfter P (count + 1) i (marginAfter P count j k i) l
+pub placed-next : (P : Points) (count j k i : ℕ) (l : List ℕ)
+    → placedAfter P count j k (i ∷ l)
+    ≡ record { position = i; margin = marginAfter P count j k i } ∷ placedAfter P (count + 1) i (marginAfter P count j k i) l
 unfolding placedAfter marginAfter placedFrom
 placed-next P count j k i [] = refl
 placed-next P count j k i (x ∷ l) = rw (ne-eqb (count + 1) 0 (λ e. omega arith))
@@ -45,7 +47,10 @@ so-far-none P d at j l = record {
   small = omega arith;
 }
 
-pub so-far-more : (P : Points) (whole d : List ℕ) (at all i : ℕ) (left : List ℕ) (count j k : ℕ) (output : List ℕ) → at + 2 * all ≤ length d → SoFar P whole d at all (i ∷ left) count j k output → SoFar P whole d at all left (count + 1) i (marginAfter P count j k i) (set (set output (at + 2 * count) i) (at + 2 * count + 1) (marginAfter P count j k i))
+pub so-far-more : (P : Points) (whole d : List ℕ) (at all i : ℕ) (left : List ℕ) (count j k : ℕ) (output : List ℕ)
+    → at + 2 * all ≤ length d → SoFar P whole d at all (i ∷ left) count j k output
+    → SoFar P whole d at all left (count + 1) i (marginAfter P count j k i)
+    (set (set output (at + 2 * count) i) (at + 2 * count + 1) (marginAfter P count j k i))
 unfolding pairs
 so-far-more P whole d at all i left count j k output h f =
     let m = marginAfter P count j k i in
@@ -61,7 +66,8 @@ so-far-more P whole d at all i left count j k output h f =
       small = margin-small P count j k i (f .small);
     }
 
-pub so-far-whole : (P : Points) (whole d : List ℕ) (at all count j k : ℕ) (output : List ℕ) → SoFar P whole d at all [] count j k output → (output ≡ written d at whole) × (count ≡ all)
+pub so-far-whole : (P : Points) (whole d : List ℕ) (at all count j k : ℕ) (output : List ℕ)
+    → SoFar P whole d at all [] count j k output → (output ≡ written d at whole) × (count ≡ all)
 unfolding placedAfter pairs
 so-far-whole P whole d at all count j k output f =
     let e : f .done ≡ whole = sym (append-nil (f .done)) ∙ f .rest in
@@ -82,7 +88,9 @@ lists-length s inside outside =
     omega (arith, length-append (s ++ I) O, length-append s I, section-length (pointsOf s) outside)
 
 -- THE PLATE, written section by section
-pub plate-written : (s inside outside d : List ℕ) → length s + 2 + length inside + 2 * length outside ≤ length d → written (written (written d 0 s) (length s) (length inside ∷ inside)) (length s + 1 + length inside) (sectionOf (pointsOf s) outside) ≡ plateOfLists s inside outside ++ drop (length (plateOfLists s inside outside)) d
+pub plate-written : (s inside outside d : List ℕ) → length s + 2 + length inside + 2 * length outside ≤ length d
+    → written (written (written d 0 s) (length s) (length inside ∷ inside)) (length s + 1 + length inside) (sectionOf (pointsOf s) outside)
+    ≡ plateOfLists s inside outside ++ drop (length (plateOfLists s inside outside)) d
 unfolding plateOfLists
 plate-written s inside outside d h =
     let I : List ℕ = length inside ∷ inside in

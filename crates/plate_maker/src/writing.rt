@@ -29,7 +29,8 @@ fn margin_after(sheet: &[u8], count: usize, previous: u8, margin: u8, position: 
 // Writes the inside section of a list of positions from the place `at` on, and gives the place after it.
 fn write_inside(list: &[u8], output: &mut [u8], at: usize) -> usize
     requires { ⌜ (length (now list) ≤ 32) × (at + 1 + length (now list) ≤ length (now output)) ⌝ }
-    ensures { λ r. ⌜ (r ≡ at + 1 + length (now (list .entry))) × (now (output .exit) ≡ written (now (output .entry)) at (length (now (list .entry)) ∷ now (list .entry))) ⌝ }
+    ensures { λ r. ⌜ (r ≡ at + 1 + length (now (list .entry)))
+        × (now (output .exit) ≡ written (now (output .entry)) at (length (now (list .entry)) ∷ now (list .entry))) ⌝ }
 {
     let count = list.len();
     copy_to(list, output, at + 1);
@@ -40,7 +41,8 @@ fn write_inside(list: &[u8], output: &mut [u8], at: usize) -> usize
 // Writes the positions of a list with their margin columns from the place `at` on.
 fn write_pairs(sheet: &[u8], list: &[u8], output: &mut [u8], at: usize)
     requires { ⌜ (length (now list) ≤ 32) × (at + 2 * length (now list) ≤ length (now output)) ⌝ }
-    ensures { λ _. ⌜ now (output .exit) ≡ written (now (output .entry)) at (pairs (placed (pointsOf (now (sheet .entry))) (now (list .entry)))) ⌝ }
+    ensures { λ _. ⌜ now (output .exit)
+        ≡ written (now (output .entry)) at (pairs (placed (pointsOf (now (sheet .entry))) (now (list .entry)))) ⌝ }
 {
     let mut previous: u8 = 0;
     let mut margin: u8 = 0;
@@ -58,7 +60,8 @@ fn write_pairs(sheet: &[u8], list: &[u8], output: &mut [u8], at: usize)
 // Writes the outside section of a list of positions, from the highest row down, from the place `at` on, and gives the place after it.
 fn write_outside(sheet: &[u8], list: &[u8], output: &mut [u8], at: usize) -> usize
     requires { ⌜ (length (now list) ≤ 32) × (at + 1 + 2 * length (now list) ≤ length (now output)) ⌝ }
-    ensures { λ r. ⌜ (r ≡ at + 1 + 2 * length (now (list .entry))) × (now (output .exit) ≡ written (now (output .entry)) at (sectionOf (pointsOf (now (sheet .entry))) (now (list .entry)))) ⌝ }
+    ensures { λ r. ⌜ (r ≡ at + 1 + 2 * length (now (list .entry)))
+        × (now (output .exit) ≡ written (now (output .entry)) at (sectionOf (pointsOf (now (sheet .entry))) (now (list .entry)))) ⌝ }
 {
     let count = list.len();
     write_pairs(sheet, list, output, at + 1);
@@ -68,8 +71,12 @@ fn write_outside(sheet: &[u8], list: &[u8], output: &mut [u8], at: usize) -> usi
 
 // Writes the plate of the sheet with these inside and outside positions at the start of the output, and gives its length.
 fn write_plate(sheet: &[u8], inside: &[u8], outside: &[u8], output: &mut [u8]) -> usize
-    requires { ⌜ (length (now inside) ≤ 32) × (length (now outside) ≤ 32) × (length (now sheet) + 2 + length (now inside) + 2 * length (now outside) ≤ length (now output)) ⌝ }
-    ensures { λ r. ⌜ (r ≡ length (plateOfLists (now (sheet .entry)) (now (inside .entry)) (now (outside .entry)))) × (now (output .exit) ≡ plateOfLists (now (sheet .entry)) (now (inside .entry)) (now (outside .entry)) ++ drop (length (plateOfLists (now (sheet .entry)) (now (inside .entry)) (now (outside .entry)))) (now (output .entry))) ⌝ }
+    requires { ⌜ (length (now inside) ≤ 32) × (length (now outside) ≤ 32)
+        × (length (now sheet) + 2 + length (now inside) + 2 * length (now outside) ≤ length (now output)) ⌝ }
+    ensures { λ r. ⌜ (r ≡ length (plateOfLists (now (sheet .entry)) (now (inside .entry)) (now (outside .entry))))
+        × (now (output .exit)
+        ≡ plateOfLists (now (sheet .entry)) (now (inside .entry)) (now (outside .entry))
+        ++ drop (length (plateOfLists (now (sheet .entry)) (now (inside .entry)) (now (outside .entry)))) (now (output .entry))) ⌝ }
 {
     copy_to(sheet, output, 0);
     let at = write_inside(inside, output, sheet.len());

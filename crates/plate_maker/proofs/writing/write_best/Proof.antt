@@ -43,8 +43,11 @@ write-plate-requires c κs =
     let start = c .before .before .before .before .before .before .before .before .before .before .before in
     let a = fine start in
     let b = start .pre .1 in
-    rw (inside-listed _ _ a b, outside-listed _ _ a b)
-    (omega (arith, both-lengths _ _ a b, a .proper .few), omega (arith, both-lengths _ _ a b, a .proper .few), omega (arith, both-lengths _ _ a b, a .long, start .pre .2))
+    rw (inside-listed _ _ a b, outside-listed _ _ a b) (
+      omega (arith, both-lengths _ _ a b, a .proper .few),
+      omega (arith, both-lengths _ _ a b, a .proper .few),
+      omega (arith, both-lengths _ _ a b, a .long, start .pre .2),
+    )
 
 same-length : tie.Need-same-length
 same-length c = search needs

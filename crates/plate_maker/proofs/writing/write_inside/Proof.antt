@@ -31,8 +31,11 @@ same-length c = search needs
 
 returns : tie.Need-returns
 returns c =
-    let a = c .before .before .before .before .before .before .args in
-    (refl, rw (c .before .before .copy-to .ensures, written-fits (a .output .now) (a .at + 1) (a .list .now) (omega arith)) (written-front (a .output .now) (a .at) (a .list .now) (length (a .list .now)) (omega arith)))
+    let a = c .before .before .before .before .before .before .args in (
+      refl,
+      rw (c .before .before .copy-to .ensures, written-fits (a .output .now) (a .at + 1) (a .list .now) (omega arith))
+          (written-front (a .output .now) (a .at) (a .list .now) (length (a .list .now)) (omega arith)),
+    )
 
 pub write-inside-spec : {M : Type 1} → statement M
 write-inside-spec =

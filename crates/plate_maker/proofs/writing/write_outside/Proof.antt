@@ -38,8 +38,12 @@ same-length c = search needs
 returns : tie.Need-returns
 unfolding sectionOf
 returns c =
-    let a = c .before .before .before .before .before .before .before .args in
-    (refl, rw (c .before .before .write-pairs .ensures) (written-front (a .output .now) (a .at) (pairs (placed (pointsOf (a .sheet .now)) (a .list .now))) (length (a .list .now)) (omega arith)))
+    let a = c .before .before .before .before .before .before .before .args in (
+      refl,
+      rw (c .before .before .write-pairs .ensures)
+          (written-front (a .output .now) (a .at) (pairs (placed (pointsOf (a .sheet .now)) (a .list .now)))
+          (length (a .list .now)) (omega arith)),
+    )
 
 pub write-outside-spec : {M : Type 1} → statement M
 write-outside-spec =

@@ -17,7 +17,8 @@ use Rattle.plate_maker.proofs.writing.write_pairs.Tie as tie
 
 abbrev Inv-loop : tie.InvT-loop
 Inv-loop sheet list output₀ at previous₀ margin₀ count₀ output previous margin count =
-    (count ≤ length list) × (length output ≡ length output₀) × SoFar (pointsOf sheet) (pairs (placed (pointsOf sheet) list)) output₀ at (length list) (drop count list) count previous margin output
+    (count ≤ length list) × (length output ≡ length output₀)
+    × SoFar (pointsOf sheet) (pairs (placed (pointsOf sheet) list)) output₀ at (length list) (drop count list) count previous margin output
 
 abbrev μ-loop : tie.MeasureT-loop
 μ-loop sheet list output₀ at previous₀ margin₀ count₀ output previous margin count = length list - count
@@ -31,7 +32,8 @@ shared-slice-read-position : tie.Need-shared-slice-read-position Inv-loop μ-loo
 shared-slice-read-position c = search needs
 
 margin-after-requires : tie.Need-margin-after-requires Inv-loop μ-loop
-margin-after-requires c κs = omega (arith, c .before .before .loop .inv .2 .small, c .before .before .before .before .before .before .pre .0)
+margin-after-requires c κs =
+    omega (arith, c .before .before .loop .inv .2 .small, c .before .before .before .before .before .before .pre .0)
 
 mul-output : tie.Need-mul-output Inv-loop μ-loop
 mul-output c = search needs
@@ -66,9 +68,17 @@ loop-again c =
     let l = c .before .before .before .loop in
     let P : Points = pointsOf (a .sheet .now) in
     let i : ℕ = getD (a .list .now) (l .count) 0 in
-    let rest : drop (l .count) (a .list .now) ≡ i ∷ drop (l .count + 1) (a .list .now) = rw (add-one (l .count)) (drop-cons (a .list .now) (l .count) 0 (omega arith)) in
-    let f : SoFar P (pairs (placed P (a .list .now))) (a .output .now) (a .at) (length (a .list .now)) (i ∷ drop (l .count + 1) (a .list .now)) (l .count) (l .previous) (l .margin) (l .output) = rw rest at (l .inv .2) in
-    (search needs, simp length-set (search needs), rw (c .margin-after .ensures) (so-far-more P (pairs (placed P (a .list .now))) (a .output .now) (a .at) (length (a .list .now)) i (drop (l .count + 1) (a .list .now)) (l .count) (l .previous) (l .margin) (l .output) (omega (arith, c .before .before .before .before .before .before .before .pre .1)) f))
+    let rest : drop (l .count) (a .list .now) ≡ i ∷ drop (l .count + 1) (a .list .now) =
+    rw (add-one (l .count)) (drop-cons (a .list .now) (l .count) 0 (omega arith)) in
+    let f : SoFar P (pairs (placed P (a .list .now))) (a .output .now) (a .at) (length (a .list .now))
+    (i ∷ drop (l .count + 1) (a .list .now)) (l .count) (l .previous) (l .margin) (l .output) = rw rest at (l .inv .2) in (
+      search needs,
+      simp length-set (search needs),
+      rw (c .margin-after .ensures)
+          (so-far-more P (pairs (placed P (a .list .now))) (a .output .now) (a .at) (length (a .list .now))
+          i (drop (l .count + 1) (a .list .now)) (l .count) (l .previous) (l .margin) (l .output)
+          (omega (arith, c .before .before .before .before .before .before .before .pre .1)) f),
+    )
 
 same-length : tie.Need-same-length Inv-loop μ-loop
 same-length c = search needs
@@ -79,8 +89,11 @@ returns c =
     let l = c .before .loop in
     let P : Points = pointsOf (a .sheet .now) in
     let z : l .count ≡ length (a .list .now) = omega arith in
-    let f : SoFar P (pairs (placed P (a .list .now))) (a .output .now) (a .at) (length (a .list .now)) [] (l .count) (l .previous) (l .margin) (l .output) = rw (ap (λ k. drop k (a .list .now)) z ∙ drop-length (a .list .now)) at (l .inv .2) in
-    so-far-whole P (pairs (placed P (a .list .now))) (a .output .now) (a .at) (length (a .list .now)) (l .count) (l .previous) (l .margin) (l .output) f .0
+    let f : SoFar P (pairs (placed P (a .list .now))) (a .output .now) (a .at) (length (a .list .now))
+    [] (l .count) (l .previous) (l .margin) (l .output) =
+    rw (ap (λ k. drop k (a .list .now)) z ∙ drop-length (a .list .now)) at (l .inv .2) in
+    so-far-whole P (pairs (placed P (a .list .now))) (a .output .now) (a .at) (length (a .list .now))
+    (l .count) (l .previous) (l .margin) (l .output) f .0
 
 pub write-pairs-spec : {M : Type 1} → statement M
 write-pairs-spec =

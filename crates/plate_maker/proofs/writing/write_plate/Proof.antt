@@ -26,16 +26,28 @@ same-length c = search needs
 
 returns : tie.Need-returns
 returns c =
-    let a = c .before .before .before .before .before .before .before .before .before .before .before .before .before .before .before .before .args in
+    let a = c .before .before .before .before .before .before .before .before .before .before .before .before .before .before .before
+    .before .args in
     let s : List ℕ = a .sheet .now in
     let I : List ℕ = a .inside .now in
     let O : List ℕ = a .outside .now in
     let d : List ℕ = a .output .now in
-    let copied : c .before .before .before .before .before .before .before .before .before .before .copy-to .last .1 .0 ≡ written d 0 s = c .before .before .before .before .before .before .before .before .before .before .copy-to .ensures ∙ written-fits d 0 s (omega arith) in
-    let at : c .before .before .before .before .before .before .write-inside .result ≡ length s + 1 + length I = c .before .before .before .before .before .before .write-inside .ensures .0 in
-    let one : c .before .before .before .before .before .before .write-inside .last .1 .0 ≡ written (written d 0 s) (length s) (length I ∷ I) = rw copied at (c .before .before .before .before .before .before .write-inside .ensures .1) in
-    let two : c .before .before .write-outside .last .1 .1 .0 ≡ written (written (written d 0 s) (length s) (length I ∷ I)) (length s + 1 + length I) (sectionOf (pointsOf s) O) = rw (one, at) at (c .before .before .write-outside .ensures .1) in
-    (omega (arith, c .before .before .write-outside .ensures .0, lists-length s I O), two ∙ plate-written s I O d (c .before .before .before .before .before .before .before .before .before .before .before .before .before .before .before .before .pre .2))
+    let copied : c .before .before .before .before .before .before .before .before .before .before .copy-to .last .1 .0 ≡ written d 0 s =
+    c .before .before .before .before .before .before .before .before .before .before .copy-to .ensures
+    ∙ written-fits d 0 s (omega arith) in
+    let at : c .before .before .before .before .before .before .write-inside .result ≡ length s + 1 + length I =
+    c .before .before .before .before .before .before .write-inside .ensures .0 in
+    let one :
+    c .before .before .before .before .before .before .write-inside .last .1 .0 ≡ written (written d 0 s) (length s) (length I ∷ I) =
+    rw copied at (c .before .before .before .before .before .before .write-inside .ensures .1) in
+    let two : c .before .before .write-outside .last .1 .1 .0
+    ≡ written (written (written d 0 s) (length s) (length I ∷ I)) (length s + 1 + length I) (sectionOf (pointsOf s) O) =
+    rw (one, at) at (c .before .before .write-outside .ensures .1) in (
+      omega (arith, c .before .before .write-outside .ensures .0, lists-length s I O),
+      two ∙ plate-written s I O d
+          (c .before .before .before .before .before .before .before .before .before .before .before .before .before .before .before .before
+          .pre .2),
+    )
 
 pub write-plate-spec : {M : Type 1} → statement M
 write-plate-spec =
