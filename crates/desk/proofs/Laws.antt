@@ -9,8 +9,9 @@ use lib.Seq.{take-all}
 use borrow.Author.Tests.{eq-eqb, ne-eqb, eqb-true, le-leb}
 use native.Mathlib.Omega.{arith}
 use native.Mathlib.Numerals.{add-one}
+use Rattle.format.specs.Sizes.{sheetRoom, plateRoom}
 use Rattle.format.specs.Padded.{padded, drop-zeros}
-use Rattle.labeling.specs.Tests.{decide, same}
+use Rattle.labeling.specs.Decide.{decide, same}
 use Rattle.labeling.specs.Best.{bestCount}
 use Rattle.format.specs.Sheet.{pointCount, pointsOf, sheetNo}
 use Rattle.format.specs.Accepted.{accepted}
@@ -21,15 +22,16 @@ use Rattle.clash.specs.declared.Clash.{Clash}
 use Rattle.clash.specs.declared.Clash.the-variants.{None, Between}
 use Rattle.clash.specs.FirstClash.{firstClash}
 use Rattle.plate_reader.specs.PlateQuestions.{insideCount}
-use Rattle.format.specs.MakingQuestions.{buffersNo, makingNo, workspaceAfter}
+use Rattle.format.specs.MakingQuestions.{askedNo, makingNo, loadNo, workspaceAfter}
 use Rattle.plate_maker.specs.Making.{makeOutcome, BestOutput, Making}
 use Rattle.plate_maker.specs.declared.MakeAnswer.{MakeAnswer}
 use Rattle.plate_maker.specs.declared.MakeAnswer.the-variants.{Made, Refused as RefusedMaking}
-use Rattle.desk.specs.Questions.{loadNo, listCount, aboveBefore, entryNo, entriesNo}
-use Rattle.desk.specs.Desk.{noSheet, loadOutcome, withSheet, loadedDesk, Loading, verdictBy, verdictAt}
+use Rattle.desk.specs.Questions.{listCount, aboveBefore, entryNo, entriesNo}
+use Rattle.desk.specs.Desk.{noSheet, loadOutcome, heldOf, withHeld, loadedDesk, Loading, verdictBy, verdictAt}
 use Rattle.desk.specs.Blank.{blankPlate}
 use Rattle.desk.specs.DeskLaws.{none-load}
 use Rattle.desk.specs.Loaded.{plate-count}
+use Rattle.desk.specs.declared.Held.{Held}
 use Rattle.desk.specs.declared.Desk.{Desk}
 use Rattle.desk.specs.declared.LoadAnswer.the-variants.{Accepted, Refused}
 use Rattle.desk.specs.declared.LoadResult.{LoadResult}
@@ -68,27 +70,30 @@ entries-first n p m (suc k) e ne l =
 
 -- COPYING BYTES: after k stores the bytes are the first k of s, and the rest of d
 
-copy-suc : (d s : List ℕ) (k : ℕ) → k < length d → k < length s → set (take k s ++ drop k d) k (getD s k 0) ≡ take (suc k) s ++ drop (suc k) d
+copy-suc : (d s : List ℕ) (k : ℕ) → k < length d → k < length s
+    → set (take k s ++ drop k d) k (getD s k 0) ≡ take (suc k) s ++ drop (suc k) d
 copy-suc [] s k l m = absurd (omega arith)
 copy-suc (y ∷ d) [] k l m = absurd (omega arith)
 copy-suc (y ∷ d) (x ∷ s) zero l m = refl
 copy-suc (y ∷ d) (x ∷ s) (suc k) l m = ap (λ r. x ∷ r) (copy-suc d s k (omega arith) (omega arith))
 
-pub copy-more : (d s : List ℕ) (k : ℕ) → k < length d → k < length s → set (take k s ++ drop k d) k (getD s k 0) ≡ take (k + 1) s ++ drop (k + 1) d
+pub copy-more : (d s : List ℕ) (k : ℕ) → k < length d → k < length s
+    → set (take k s ++ drop k d) k (getD s k 0) ≡ take (k + 1) s ++ drop (k + 1) d
 copy-more d s k l m = rw add-one (copy-suc d s k l m)
 
 -- all of s is copied over the bytes of no sheet
-pub copied : (s : List ℕ) (k : ℕ) → length s ≡ k → take k s ++ drop k noSheet ≡ padded 202 s
+pub copied : (s : List ℕ) (k : ℕ) → length s ≡ k → take k s ++ drop k noSheet ≡ padded sheetRoom s
 unfolding padded noSheet
-copied s k e = ap₂ (λ a b. a ++ b) (take-all k s (omega arith)) (drop-zeros 202 k ∙ ap (λ j. replicate (202 - j) 0) (sym e))
+copied s k e = ap₂ (λ a b. a ++ b) (take-all k s (omega arith)) (drop-zeros sheetRoom k ∙ ap (λ j. replicate (sheetRoom - j) 0) (sym e))
 
-pub no-sheet-length : length noSheet ≡ 202
+pub no-sheet-length : length noSheet ≡ sheetRoom
 unfolding noSheet
 no-sheet-length = refl
 
 -- THE VERDICT, by the first clash x
 
-module _ (s : List ℕ) (best : ℕ) (l : List ℕ) (x : Clash) (first : x ≡ firstClash (pointsOf s) (choiceOf (take (length l - 1) (drop 1 l)))) where
+module _ (s : List ℕ) (best : ℕ) (l : List ℕ) (x : Clash)
+    (first : x ≡ firstClash (pointsOf s) (choiceOf (take (length l - 1) (drop 1 l)))) where
   by-clash : verdictAt s best l ≡ verdictBy x (listCount l) best
   unfolding verdictAt
   by-clash = ap (λ y. verdictBy y (listCount l) best) (sym (first ∙ ap (λ p. firstClash (pointsOf s) (choiceOf p)) (all-after l)))
@@ -96,19 +101,20 @@ module _ (s : List ℕ) (best : ℕ) (l : List ℕ) (x : Clash) (first : x ≡ f
   pub verdict-clash : {i j : ℕ} {k : ClashKind} → x ≡ Between i j k → ClashVerdict i j k ≡ verdictAt s best l
   verdict-clash e = sym (by-clash ∙ ap (λ y. verdictBy y (listCount l) best) e)
 
-  pub verdict-valid : {count shortfall : ℕ} → x ≡ None → count ≡ listCount l → shortfall ≡ best - count → Valid count shortfall ≡ verdictAt s best l
+  pub verdict-valid : {count shortfall : ℕ} → x ≡ None → count ≡ listCount l → shortfall ≡ best - count
+      → Valid count shortfall ≡ verdictAt s best l
   verdict-valid e c s = ap₂ Valid c (s ∙ ap (λ n. best - n) c) ∙ sym (by-clash ∙ ap (λ y. verdictBy y (listCount l) best) e)
 
 -- LOADING, from the promise of make
 
--- a plate of at most 32 points has room in 268 bytes, so 21 never comes
-making-load : (s : List ℕ) (cells : ℕ) → makingNo s 268 cells ≡ loadNo s cells
-unfolding makingNo buffersNo loadNo
+-- the largest plate has room, so 21 never comes
+making-load : (s : List ℕ) (cells : ℕ) → makingNo s plateRoom cells ≡ loadNo s cells
+unfolding makingNo askedNo loadNo
 making-load s cells =
     decide (eqb (sheetNo s) 0)
     (λ e.
     let few : pointCount s ≤ 32 = accepted s (eqb-true _ _ e) .proper .few in
-    rw (e, le-leb (12 + 8 * pointCount s) 268 (omega arith)) refl)
+    rw (e, le-leb (12 + 8 * pointCount s) plateRoom (omega arith)) refl)
     (λ e. rw e refl)
 
 module _ (s o w o′ w′ : List ℕ) (answer : MakeAnswer) (blank : o ≡ blankPlate) (m : Making s o w answer o′ w′) where
@@ -117,20 +123,22 @@ module _ (s o w o′ w′ : List ℕ) (answer : MakeAnswer) (blank : o ≡ blank
   unfolding blankPlate
   same-questions = ap (λ l. makingNo s (length l) (length w)) blank ∙ making-load s (length w)
 
-  pub load-refused : (d : Desk) (r : LoadResult) (k : ℕ) → answer ≡ RefusedMaking k → (r .desk ≡ d) × (r .answer ≡ Refused k) → Loading d s w r w′
+  pub load-refused : (d : Desk) (r : LoadResult) (k : ℕ) → answer ≡ RefusedMaking k → (r .desk ≡ d) × (r .answer ≡ Refused k)
+      → Loading d s w r w′
   load-refused d r k e q =
       let n : Making s o w (RefusedMaking k) o′ w′ = rw e at m in
-      let f : loadOutcome (Refused k) ≡ outcomeOf (makingNo s (length o) (length w)) = λ i. record { refused = n .outcome i .refused; number = n .outcome i .number } in
+      let f : loadOutcome (Refused k) ≡ outcomeOf (makingNo s (length o) (length w)) =
+      λ i. record { refused = n .outcome i .refused; no = n .outcome i .no } in
       record {
         outcome = ap loadOutcome (q .1) ∙ f ∙ ap outcomeOf same-questions;
         desk = q .0 ∙ ap (λ a. loadedDesk a d s) (sym (q .1));
-        workspace = n .workspace ∙ ap (λ a. workspaceAfter (loadOutcome a .number) w) (sym (q .1));
+        workspace = n .workspace ∙ ap (λ a. workspaceAfter (loadOutcome a .no) w) (sym (q .1));
       }
 
   made-accepted : (r : ℕ) → answer ≡ Made r → loadNo s (length w) ≡ 0
-  made-accepted r e = sym same-questions ∙ sym (λ i. m .outcome i .number) ∙ ap (λ a. makeOutcome a .number) e
+  made-accepted r e = sym same-questions ∙ sym (λ i. m .outcome i .no) ∙ ap (λ a. makeOutcome a .no) e
 
-  pub made-short : (r : ℕ) → answer ≡ Made r → length s ≤ 202
+  pub made-short : (r : ℕ) → answer ≡ Made r → length s ≤ sheetRoom
   made-short r e = let a = none-load s (length w) .is (made-accepted r e) .0 in let l = a .long in let f = a .proper .few in omega arith
 
   made-count : (r : ℕ) → answer ≡ Made r → insideCount o′ ≡ bestCount (pointsOf s)
@@ -140,11 +148,16 @@ module _ (s o w o′ w′ : List ℕ) (answer : MakeAnswer) (blank : o ≡ blank
       let b : BestOutput s o o′ = n .output in
       ap insideCount (b .plate) ∙ plate-count s (b .choice) a _ ∙ b .best
 
-  pub load-made : (d e : Desk) (r best : ℕ) → answer ≡ Made r → best ≡ insideCount o′ → e ≡ withSheet d s best → Loading d s w (record { desk = e; answer = Accepted }) w′
-  load-made d e r best h q c =
+  pub load-made : (d e : Desk) (held : Held) (r best : ℕ) →
+      answer ≡ Made r →
+      best ≡ insideCount o′ →
+      held ≡ heldOf s best →
+      e ≡ withHeld d held →
+      Loading d s w (record { desk = e; answer = Accepted }) w′
+  load-made d e held r best h q f c =
       let n : Making s o w (Made r) o′ w′ = rw h at m in
       record {
         outcome = rw (made-accepted r h);
-        desk = c ∙ ap (withSheet d s) (q ∙ made-count r h);
+        desk = c ∙ ap (withHeld d) (f ∙ ap (heldOf s) (q ∙ made-count r h));
         workspace = n .workspace;
       }

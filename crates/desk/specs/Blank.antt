@@ -2,7 +2,8 @@
 use mathlib.Core.List.{List}
 use Prim.Native.Nat.{ℕ}
 use lib.ListN.{replicate}
+use Rattle.format.specs.Sizes.{plateRoom}
 
--- 268 zeros: room for the largest plate, of 12 + 8 · 32 bytes.
+-- Zeros, with room for the largest plate.
 unfoldable pub blankPlate : List ℕ
-blankPlate = replicate 268 0
+blankPlate = replicate plateRoom 0

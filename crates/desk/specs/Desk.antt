@@ -7,17 +7,19 @@ use mathlib.Core.Option.{Option, none, some}
 use Prim.Native.Nat.{ℕ, _-_}
 use lib.Dec.{eqb}
 use lib.ListN.{length, replicate}
+use Rattle.format.specs.Sizes.{sheetRoom}
 use Rattle.format.specs.Padded.{padded}
 use Rattle.labeling.specs.Best.{bestCount}
 use Rattle.format.specs.Sheet.{pointCount, pointsOf}
 use Rattle.format.specs.Answers.{Outcome, outcomeOf}
-use Rattle.format.specs.MakingQuestions.{workspaceAfter}
+use Rattle.format.specs.MakingQuestions.{workspaceAfter, loadNo}
 use Rattle.format.specs.Plate.{choiceOf}
 use Rattle.clash.specs.declared.ClashKind.{ClashKind}
 use Rattle.clash.specs.declared.Clash.{Clash}
 use Rattle.clash.specs.declared.Clash.the-variants.{None, Between}
 use Rattle.clash.specs.FirstClash.{firstClash}
-use Rattle.desk.specs.Questions.{loadNo, positions, listCount, nextNumber, markNo}
+use Rattle.desk.specs.Questions.{positions, listCount, nextNumber, markNo}
+use Rattle.desk.specs.declared.Held.{Held}
 use Rattle.desk.specs.declared.Desk.{Desk}
 use Rattle.desk.specs.declared.LoadAnswer.{LoadAnswer}
 use Rattle.desk.specs.declared.LoadAnswer.the-variants.{Accepted, Refused}
@@ -30,41 +32,53 @@ use Rattle.desk.specs.declared.Verdict.the-variants.{Valid, Clash as Cla
 
 -- No bytes of a sheet.
 unfoldable pub noSheet : List ℕ
-noSheet = replicate 202 0
+noSheet = replicate sheetRoom 0
+
+-- What a desk without a sheet holds.
+abbrev pub nothingHeld : Held
+nothingHeld = record { sheet = noSheet; loaded = false; spare = 0; best = 0 }
 
 -- "A fresh desk has no sheet and last number 0."
 abbrev pub fresh : Desk
-fresh = record { sheet = noSheet; loaded = false; best = 0; last = 0 }
+fresh = record { held = nothingHeld; last = 0 }
+
+-- What a load of the sheet s, with this best count, puts into the desk. The desk has room for the largest sheet, zeros past the end of s.
+abbrev pub heldOf : List ℕ → ℕ → Held
+heldOf s best = record { sheet = padded sheetRoom s; loaded = true; spare = 0; best = best }
+
+-- The desk d with something else held, and all else as it was.
+abbrev pub withHeld : Desk → Held → Desk
+withHeld d held = record { held = held; last = d .last }
+
+-- The desk d with another last number, and all else as it was.
+abbrev pub withLast : Desk → ℕ → Desk
+withLast d last = record { held = d .held; last = last }
 
 -- LOAD
 
 -- The cases of load's answer: whether it is refused, and the number of the first no, 0 where nothing is refused.
 abbrev pub loadOutcome : LoadAnswer → Outcome
-loadOutcome Accepted = record { refused = false; number = 0 }
-loadOutcome (Refused k) = record { refused = true; number = k }
+loadOutcome Accepted = record { refused = false; no = 0 }
+loadOutcome (Refused k) = record { refused = true; no = k }
 
--- "A load replaces the sheet and its best count and keeps the last number." The desk has 202 bytes for a sheet, 10 + 6 · 32, zeros past
--- its end.
-abbrev pub withSheet : Desk → List ℕ → ℕ → Desk
-withSheet d s best = record { sheet = padded 202 s; loaded = true; best = best; last = d .last }
-
--- The desk d after a load of the bytes s: by cases on the answer. "buffers, workspace and desk stay untouched" on a refusal.
+-- The desk d after a load of the bytes s: by cases on the answer. "A load replaces the sheet and its best count and keeps the last
+-- number"; "buffers, workspace and desk stay untouched" on a refusal.
 abbrev pub loadedDesk : LoadAnswer → Desk → List ℕ → Desk
-loadedDesk Accepted d s = withSheet d s (bestCount (pointsOf s))
+loadedDesk Accepted d s = withHeld d (heldOf s (bestCount (pointsOf s)))
 loadedDesk (Refused k) d s = d
 
 -- THE PROMISE of load, on any desk d, bytes s and workspace w: its answer, and what desk and workspace hold afterwards.
 pub record Loading (d : Desk) (s w : List ℕ) (r : LoadResult) (w′ : List ℕ) : Type 0 where
   pub outcome : loadOutcome (r .answer) ≡ outcomeOf (loadNo s (length w))
   pub desk : r .desk ≡ loadedDesk (r .answer) d s
-  pub workspace : w′ ≡ workspaceAfter (loadOutcome (r .answer) .number) w
+  pub workspace : w′ ≡ workspaceAfter (loadOutcome (r .answer) .no) w
 
 -- an outcome fixes the answer, constructor and number
 pub load-outcome-fixes : (a b : LoadAnswer) → loadOutcome a ≡ loadOutcome b → a ≡ b
 load-outcome-fixes Accepted Accepted e = refl
 load-outcome-fixes Accepted (Refused k) e = absurd (true≢false (λ i. sym e i .refused))
 load-outcome-fixes (Refused k) Accepted e = absurd (true≢false (λ i. e i .refused))
-load-outcome-fixes (Refused k) (Refused m) e = λ i. Refused (e i .number)
+load-outcome-fixes (Refused k) (Refused m) e = λ i. Refused (e i .no)
 
 -- The answer where the first no is k.
 abbrev pub loadAnswerOf : ℕ → LoadAnswer
@@ -107,19 +121,19 @@ verdictOutcome (ClashVerdict first second kind) = clashOutcome first second kind
 -- the verdict on it, if it has them.
 pub record MarkOutcome : Type 0 where
   pub refused : Bool
-  pub number : ℕ
-  pub listNumber : Option ℕ
+  pub no : ℕ
+  pub number : Option ℕ
   pub verdict : Option VerdictOutcome
 
 -- The cases of mark's answer.
 abbrev pub markOutcome : MarkAnswer → MarkOutcome
 markOutcome (Marked number verdict) =
-    record { refused = false; number = 0; listNumber = some number; verdict = some (verdictOutcome verdict) }
-markOutcome (RefusedMark k) = record { refused = true; number = k; listNumber = none; verdict = none }
+    record { refused = false; no = 0; number = some number; verdict = some (verdictOutcome verdict) }
+markOutcome (RefusedMark k) = record { refused = true; no = k; number = none; verdict = none }
 
 -- The first no of a mark of the list l at this desk, 0 if there is none.
 abbrev pub firstNo : Desk → List ℕ → ℕ
-firstNo d l = markNo (d .loaded) (pointCount (d .sheet)) (d .last) l
+firstNo d l = markNo (d .held .loaded) (pointCount (d .held .sheet)) (d .last) l
 
 -- The verdict by the first clash: "valid, with the list's count and its shortfall; or a clash, with two positions and whether two labels
 -- met or a label met a leader". The shortfall is 0 where the count exceeds the best.
@@ -133,22 +147,22 @@ verdictAt s best l = verdictBy (firstClash (pointsOf s) (choiceOf (positions l))
 
 -- The verdict on the list l at this desk.
 abbrev pub verdictOf : Desk → List ℕ → Verdict
-verdictOf d l = verdictAt (d .sheet) (d .best) l
+verdictOf d l = verdictAt (d .held .sheet) (d .held .best) l
 
 -- The outcome of a mark of the list l at this desk, where the first no is k: "The answer carries the next number and a verdict"; "a refused
 -- mark carries no list number and no verdict".
 abbrev pub markOutcomeOf : Desk → List ℕ → ℕ → MarkOutcome
 markOutcomeOf d l k = record {
   refused = not (eqb k 0);
-  number = k;
-  listNumber = cond (eqb k 0) (some (nextNumber (d .last))) none;
+  no = k;
+  number = cond (eqb k 0) (some (nextNumber (d .last))) none;
   verdict = cond (eqb k 0) (some (verdictOutcome (verdictOf d l))) none;
 }
 
 -- The desk d after a mark: by cases on the answer. A marked list's number is the last one, whatever the verdict: "Clashing lists use up a
 -- number too". "buffers, workspace and desk stay untouched" on a refusal.
 abbrev pub markedDesk : MarkAnswer → Desk → Desk
-markedDesk (Marked number verdict) d = record { sheet = d .sheet; loaded = d .loaded; best = d .best; last = number }
+markedDesk (Marked number verdict) d = withLast d number
 markedDesk (RefusedMark k) d = d
 
 -- THE PROMISE of mark, on any desk d and list l: its answer, and what the desk holds afterwards.
@@ -173,13 +187,13 @@ verdict-outcome-fixes (ClashVerdict i j k) (ClashVerdict a b c) e =
 -- and the answer: constructor, numbers and verdict
 pub mark-outcome-fixes : (a b : MarkAnswer) → markOutcome a ≡ markOutcome b → a ≡ b
 mark-outcome-fixes (Marked n v) (Marked m u) e =
-    let p : some n ≡ some m = λ i. e i .listNumber in
+    let p : some n ≡ some m = λ i. e i .number in
     let q : some (verdictOutcome v) ≡ some (verdictOutcome u) = λ i. e i .verdict in
     let w : v ≡ u = verdict-outcome-fixes v u (cc) in
     cc
 mark-outcome-fixes (Marked n v) (RefusedMark k) e = absurd (true≢false (λ i. sym e i .refused))
 mark-outcome-fixes (RefusedMark k) (Marked m u) e = absurd (true≢false (λ i. e i .refused))
-mark-outcome-fixes (RefusedMark k) (RefusedMark m) e = λ i. RefusedMark (e i .number)
+mark-outcome-fixes (RefusedMark k) (RefusedMark m) e = λ i. RefusedMark (e i .no)
 
 -- The answer where the first no is k.
 abbrev pub markAnswerOf : Desk → List ℕ → ℕ → MarkAnswer

@@ -8,13 +8,16 @@ use Prim.Native.Nat.{ℕ, _≤_, _<_}
 use lib.ListN.{length}
 use borrow.Author.Tests.{eq-eqb, ne-eqb}
 use native.Mathlib.Omega.{arith}
-use Rattle.labeling.specs.Tests.{same, dec-lt}
+use Rattle.labeling.specs.Decide.{same, dec-lt}
+use Rattle.format.specs.Sizes.{workspaceCells}
 use Rattle.format.specs.Answers.{outcomeOf}
 use Rattle.format.specs.Accepted.{Accepted, NoneOf, none-ask, none-left, none-sheet}
 use Rattle.format.specs.Asking.{none-then}
-use Rattle.format.specs.MakingQuestions.{none-workspace, workspaceAfter}
-use Rattle.desk.specs.Questions.{loadNo, nextNumber, loadedListNo, markNo}
-use Rattle.desk.specs.Desk.{loadOutcome, load-outcome-fixes, Loading, loadedDesk, loadResult, loadAnswerOf, loadOf, verdictOf, firstNo, markOutcome, markOutcomeOf, mark-outcome-fixes, Marking, markedDesk, markResult, markAnswerOf, markOf}
+use Rattle.format.specs.MakingQuestions.{none-workspace, workspaceAfter, loadNo}
+use Rattle.desk.specs.Questions.{nextNumber, loadedListNo, markNo}
+use Rattle.desk.specs.Desk.{loadOutcome, load-outcome-fixes, Loading, loadedDesk, loadResult}
+use Rattle.desk.specs.Desk.{loadAnswerOf, loadOf, verdictOf, firstNo, markOutcome, markOutcomeOf}
+use Rattle.desk.specs.Desk.{mark-outcome-fixes, Marking, markedDesk, markResult, markAnswerOf, markOf}
 use Rattle.desk.specs.Lists.{Listed, none-list}
 use Rattle.desk.specs.declared.Desk.{Desk}
 use Rattle.desk.specs.declared.LoadAnswer.the-variants.{Accepted as AcceptedSheet, Refused}
@@ -37,11 +40,13 @@ load-outcome : (k : ℕ) → loadOutcome (loadAnswerOf k) ≡ outcomeOf k
 load-outcome k = same k 0 (λ e. rw e) (λ ne. rw (ne-eqb k 0 ne))
 
 -- THE PROMISE LEAVES ONE RESULT
-pub loading-exactly : (d : Desk) (s w w′ : List ℕ) (r : LoadResult) → Loading d s w r w′ ↔ ((r ≡ loadOf d s w) × (w′ ≡ workspaceAfter (loadOutcome (r .answer) .number) w))
+pub loading-exactly : (d : Desk) (s w w′ : List ℕ) (r : LoadResult)
+    → Loading d s w r w′ ↔ ((r ≡ loadOf d s w) × (w′ ≡ workspaceAfter (loadOutcome (r .answer) .no) w))
 unfolding loadOf
 loading-exactly d s w w′ r = (
   λ m.
-      let a : r .answer ≡ loadAnswerOf (loadNo s (length w)) = load-outcome-fixes _ _ (m .outcome ∙ sym (load-outcome (loadNo s (length w)))) in
+      let a : r .answer ≡ loadAnswerOf (loadNo s (length w)) =
+      load-outcome-fixes _ _ (m .outcome ∙ sym (load-outcome (loadNo s (length w)))) in
       ((λ i. record { desk = (m .desk ∙ ap (λ x. loadedDesk x d s) a) i; answer = a i }), m .workspace),
   λ e. record {
     outcome = ap (λ x. loadOutcome (x .answer)) (e .0) ∙ load-outcome (loadNo s (length w));
@@ -51,7 +56,7 @@ loading-exactly d s w w′ r = (
 )
 
 -- a load is accepted exactly if its sheet is and the workspace is large enough
-pub none-load : (s : List ℕ) (cells : ℕ) → NoneOf (loadNo s cells) (Accepted s × ((32768 ≤ cells) × Unit {0}))
+pub none-load : (s : List ℕ) (cells : ℕ) → NoneOf (loadNo s cells) (Accepted s × ((workspaceCells ≤ cells) × Unit {0}))
 unfolding loadNo
 none-load s cells = none-then (none-sheet s) (none-workspace cells)
 
@@ -84,7 +89,8 @@ marking-exactly d l r = (
 )
 
 -- a list is marked exactly if a sheet is loaded, the list is well-formed, and a number is left
-pub none-mark : (loaded : Bool) (n last : ℕ) (l : List ℕ) → NoneOf (markNo loaded n last l) (((loaded ≡ true) × Listed n l) × ((last < 9999) × Unit {0}))
+pub none-mark : (loaded : Bool) (n last : ℕ) (l : List ℕ)
+    → NoneOf (markNo loaded n last l) (((loaded ≡ true) × Listed n l) × ((last < 9999) × Unit {0}))
 unfolding markNo loadedListNo
 none-mark loaded n last l =
     none-then (none-ask 51 (omega arith) (record { is = λ e. e; of = λ e. e }) (none-list n l))

@@ -1,7 +1,12 @@
+-- TO BE BELIEVED, in this order: the questions, the promises of load and mark, the words of demand 3, and what it claims.
 pub mod Questions
 pub mod Desk
-pub mod Blank
+pub mod Calls
+pub mod DemandThree
+-- THEOREMS: what a list without a no is; the one result that each promise leaves; demand 3.
 pub mod Lists
 pub mod DeskLaws
+pub mod DemandThreeProof
+-- FOR PROOFS: the buffer that a load lends, and what the desk's bytes say of the sheet.
+pub mod Blank
 pub mod Loaded
-pub mod DemandThree

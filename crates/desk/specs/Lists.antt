@@ -8,14 +8,14 @@ use lib.Dec.{ltb, eqb}
 use lib.ListN.{length, getD}
 use borrow.Author.Tests.{eqb-true, eqb-false, eq-eqb}
 use native.Mathlib.Omega.{arith}
-use Rattle.labeling.specs.Tests.{decide, same, Decides, dec-lt, dec-eq, dec-and, and-both, dec-true}
+use Rattle.labeling.specs.Decide.{decide, same, Decides, dec-lt, dec-eq, dec-and, and-both, dec-true}
 use Rattle.labeling.specs.Best.{weight, count}
 use Rattle.format.specs.Sheet.{pointCount, pointsOf}
 use Rattle.format.specs.Accepted.{NoneOf, none-ask, none-left}
 use Rattle.format.specs.Plate.{choiceOf}
 use Rattle.format.specs.PlateLength.{inside-length}
-use Rattle.plate_reader.specs.PlateQuestions.{belowFirst, ascending}
-use Rattle.plate_reader.specs.InsideList.{ascending-head, list-of-choice}
+use Rattle.format.specs.Ascending.{belowNext, ascending}
+use Rattle.format.specs.InsideList.{ascending-head, list-of-choice}
 use Rattle.desk.specs.Questions.{positions, listCount, countRight, aboveBefore, entryNo, entriesNo, listNo}
 
 -- ENTRY BY ENTRY
@@ -51,7 +51,7 @@ entries-up n (i ∷ q) f =
     and-both _ _ (dec-lt i n .of (f 0 (omega arith) .0))
     (and-both _ _ (next q (λ l. f 1 (omega arith) .1 .0)) (entries-up n q (λ k l. (f (suc k) (omega arith) .0, (above k l, tt)))))
   where
-    next : (q : List ℕ) → (0 < length q → ltb i (getD q 0 0) ≡ true) → belowFirst i q ≡ true
+    next : (q : List ℕ) → (0 < length q → ltb i (getD q 0 0) ≡ true) → belowNext i q ≡ true
     next [] g = refl
     next (j ∷ q) g = g (omega arith)
 
@@ -68,7 +68,7 @@ up-entries n (i ∷ q) e (suc k) l =
     let ih = up-entries n q (h .2) in
     (ih k (omega arith) .0, (above q k (omega arith) (h .1) (ih k (omega arith) .1 .0), tt))
   where
-    above : (q : List ℕ) (k : ℕ) → k < length q → belowFirst i q ≡ true → aboveBefore q k ≡ true → aboveBefore (i ∷ q) (suc k) ≡ true
+    above : (q : List ℕ) (k : ℕ) → k < length q → belowNext i q ≡ true → aboveBefore q k ≡ true → aboveBefore (i ∷ q) (suc k) ≡ true
     above [] k l b f = absurd (omega arith)
     above (j ∷ q) zero l b f = b
     above (j ∷ q) (suc k) l b f = f
@@ -100,7 +100,8 @@ none-list n l =
 -- the count of a list is the inside count of its choice
 pub list-count : (s l : List ℕ) → Listed (pointCount s) l → count (pointsOf s) (choiceOf (positions l)) ≡ listCount l
 unfolding count weight
-list-count s l f = sym (inside-length (choiceOf (positions l)) (pointCount s)) ∙ ap length (list-of-choice (pointCount s) (positions l) (f .up))
+list-count s l f =
+    sym (inside-length (choiceOf (positions l)) (pointCount s)) ∙ ap length (list-of-choice (pointCount s) (positions l) (f .up))
 
 -- a choice's list, with its count byte
 pub choice-listed : (n : ℕ) (p : List ℕ) → ascending n p ≡ true → Listed n (length p ∷ p)

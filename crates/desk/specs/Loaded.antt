@@ -8,8 +8,9 @@ use lib.ListN.{length, getD, take, drop, replicate, length-replicate, getD-repli
 use lib.Seq.{getD-append-add, take-at, drop-at}
 use borrow.Author.Tests.{ltb-true, ltb-false}
 use native.Mathlib.Omega.{arith}
+use Rattle.format.specs.Sizes.{sheetRoom}
 use Rattle.format.specs.Padded.{padded}
-use Rattle.labeling.specs.Tests.{decide}
+use Rattle.labeling.specs.Decide.{decide}
 use Rattle.labeling.specs.Points.{Choice, outside, placed}
 use Rattle.labeling.specs.Best.{weight, count}
 use Rattle.format.specs.Sheet.{twoBytes, pointCount, pointsOf, sheetLength}
@@ -18,6 +19,7 @@ use Rattle.format.specs.Plate.{insideBelow, insideSection, outsideSection, pair
 use Rattle.format.specs.PlateLength.{inside-length}
 use Rattle.plate_reader.specs.PlateQuestions.{insideCount}
 use Rattle.plate_reader.specs.PlateSections.{Parts, read-back}
+use Rattle.desk.specs.Calls.{sectionRead}
 
 -- THE PADDED BYTES
 
@@ -28,23 +30,23 @@ zeros n k =
     (λ e. List·getD-eq-default (replicate n 0) 0 (rw (length-replicate {A = ℕ} n 0) (ltb-false k n e)))
 
 -- bytes past the end read 0, padded or not
-byte-same : (s : List ℕ) (k : ℕ) → getD (padded 202 s) k 0 ≡ getD s k 0
+byte-same : (s : List ℕ) (k : ℕ) → getD (padded sheetRoom s) k 0 ≡ getD s k 0
 unfolding padded
 byte-same s k =
     decide (ltb k (length s))
     (λ e. List·getD-append s _ 0 k (ltb-true k (length s) e))
     (λ e. let l : length s ≤ k = ltb-false k (length s) e in
-    ap (λ j. getD (s ++ replicate (202 - length s) 0) j 0) (let q : k ≡ length s + (k - length s) = omega arith in q)
-    ∙ getD-append-add s (replicate (202 - length s) 0) (k - length s) 0
-    ∙ zeros (202 - length s) (k - length s)
+    ap (λ j. getD (s ++ replicate (sheetRoom - length s) 0) j 0) (let q : k ≡ length s + (k - length s) = omega arith in q)
+    ∙ getD-append-add s (replicate (sheetRoom - length s) 0) (k - length s) 0
+    ∙ zeros (sheetRoom - length s) (k - length s)
     ∙ sym (List·getD-eq-default s 0 l))
 
-two-same : (s : List ℕ) (k : ℕ) → twoBytes (padded 202 s) k ≡ twoBytes s k
+two-same : (s : List ℕ) (k : ℕ) → twoBytes (padded sheetRoom s) k ≡ twoBytes s k
 unfolding twoBytes
 two-same s k = ap₂ (λ a b. a + 256 * b) (byte-same s k) (byte-same s (k + 1))
 
 -- so the figures are the sheet's
-pub points-same : (s : List ℕ) → pointsOf (padded 202 s) ≡ pointsOf s
+pub points-same : (s : List ℕ) → pointsOf (padded sheetRoom s) ≡ pointsOf s
 points-same s = λ i. record {
   n = byte-same s 9 i;
   mapWidth = two-same s 1 i;
@@ -55,17 +57,14 @@ points-same s = λ i. record {
   row = λ k. two-same s (14 + 6 * k) i;
 }
 
-pub count-same : (s : List ℕ) → pointCount (padded 202 s) ≡ pointCount s
+pub count-same : (s : List ℕ) → pointCount (padded sheetRoom s) ≡ pointCount s
 count-same s = byte-same s 9
 
 -- A PLATE AT THE START OF AN OUTPUT
 
--- "the inside section ..., count byte included", read from a plate's bytes: it starts where the sheet ends.
-unfoldable pub sectionRead : List ℕ → List ℕ
-sectionRead p = take (1 + insideCount p) (drop (sheetLength p) p)
-
 module _ (s : List ℕ) (S : Choice) (a : Accepted s) (rest : List ℕ) where
-  parts : Parts (plateOf s S ++ rest) s (insideBelow S (pointCount s)) (length (outside (pointsOf s) S)) (pairs (placed (pointsOf s) (outside (pointsOf s) S)) ++ rest)
+  parts : Parts (plateOf s S ++ rest) s (insideBelow S (pointCount s)) (length (outside (pointsOf s) S))
+      (pairs (placed (pointsOf s) (outside (pointsOf s) S)) ++ rest)
   unfolding plateOf insideSection outsideSection
   parts = read-back _ _ _ _ _ (a .long) (append-assoc (s ++ insideSection s S) (outsideSection s S) rest)
 
@@ -89,6 +88,7 @@ module _ (s : List ℕ) (S : Choice) (a : Accepted s) (rest : List ℕ) where
       ∙ take-at I (O ++ rest) (1 + length (insideBelow S (pointCount s))) (omega arith)
 
 -- the inside section of a plate is the choice's
-pub section-read : (s : List ℕ) (S : Choice) → Accepted s → sectionRead (plateOf s S) ≡ length (insideBelow S (pointCount s)) ∷ insideBelow S (pointCount s)
+pub section-read : (s : List ℕ) (S : Choice) → Accepted s
+    → sectionRead (plateOf s S) ≡ length (insideBelow S (pointCount s)) ∷ insideBelow S (pointCount s)
 unfolding insideSection
 section-read s S a = ap sectionRead (sym (append-nil (plateOf s S))) ∙ section-start s S a []

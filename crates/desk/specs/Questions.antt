@@ -1,19 +1,11 @@
--- The questions of a load and of a mark (document 01, "Questions in their order"), on any bytes, and the desk's numbering. A byte past
+-- The questions of a mark (document 01, "Questions in their order"), on any bytes, and the desk's numbering. A byte past
 -- the end of a list reads 0. Assumes nothing.
 use mathlib.Core.Bool.{Bool, true, _&&_}
 use mathlib.Core.List.{List}
 use Prim.Native.Nat.{ℕ, zero, suc, _+_}
 use lib.Dec.{ltb, eqb}
 use lib.ListN.{length, getD, drop}
-use Rattle.format.specs.Sheet.{ask, thenNo, sheetNo}
-use Rattle.format.specs.MakingQuestions.{workspaceNo}
-
--- LOAD
-
--- "A load asks the sheet's questions, then 22": the first no of a load of the bytes s with a workspace of `cells` numbers, 0 if there is
--- none.
-unfoldable pub loadNo : List ℕ → ℕ → ℕ
-loadNo s cells = thenNo (sheetNo s) (workspaceNo cells)
+use Rattle.format.specs.Sheet.{ask, thenNo}
 
 -- A LIST: "A mark takes a list: a count byte, then that many positions, one byte each, strictly ascending."
 

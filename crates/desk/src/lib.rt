@@ -1,9 +1,11 @@
 // The marking desk.
 use clash::ClashKind;
+use format::SHEET_ROOM;
 use loading::blank_plate;
-use loading::no_sheet;
+use loading::held_of;
+use loading::nothing_held;
 use loading::refused_load;
-use loading::with_sheet;
+use loading::with_held;
 use marking::answer_to;
 use marking::first_no;
 use plate_maker::MakeAnswer;
@@ -16,12 +18,20 @@ mod marking;
 mod numbering;
 mod questions;
 
-// A desk: the bytes of its sheet, zeros past the sheet's end; whether a sheet is loaded; the best count of that sheet; and the last
-// number given.
-pub struct Desk {
-    pub sheet: [u8; 202],
+// What a load puts into the desk: the bytes of the sheet, zeros past its end; whether a sheet is loaded; and its best count. The spare
+// byte stands where C's alignment would leave one unset. It is 0 in a fresh desk and in what a load puts there, and goes along otherwise.
+#[repr(C)]
+pub struct Held {
+    pub sheet: [u8; SHEET_ROOM],
     pub loaded: bool,
+    pub spare: u8,
     pub best: u16,
+}
+
+// A desk: what the last accepted load put there, and the last number given.
+#[repr(C)]
+pub struct Desk {
+    pub held: Held,
     pub last: u16,
 }
 
@@ -68,9 +78,7 @@ impl Desk {
         ensures { λ r. ⌜ r ≡ fresh ⌝ }
     {
         Desk {
-            sheet: no_sheet(),
-            loaded: false,
-            best: 0,
+            held: nothing_held(),
             last: 0,
         }
     }
@@ -82,10 +90,13 @@ impl Desk {
         let mut plate = blank_plate();
         match plate_maker::make(sheet, &mut plate, workspace) {
             MakeAnswer::Refused(no) => refused_load(self, no),
-            MakeAnswer::Made(_) => LoadResult {
-                desk: with_sheet(self, sheet, inside_count(&plate) as u16),
-                answer: LoadAnswer::Accepted,
-            },
+            MakeAnswer::Made(_) => {
+                let best = inside_count(&plate) as u16;
+                LoadResult {
+                    desk: with_held(self, held_of(sheet, best)),
+                    answer: LoadAnswer::Accepted,
+                }
+            }
         }
     }
 

@@ -68,22 +68,18 @@ fn verdict_of(desk: Desk, list: &[u8]) -> Verdict
     requires { ⌜ Counted (now list) ⌝ }
     ensures { λ r. ⌜ r ≡ verdictOf desk (now (list .entry)) ⌝ }
 {
-    let sheet = desk.sheet;
-    verdict_at(&sheet, desk.best, list)
+    let sheet = desk.held.sheet;
+    verdict_at(&sheet, desk.held.best, list)
 }
 
 // A marked list: the desk with its number as the last one, and the answer.
 fn marked(desk: Desk, number: u16, verdict: Verdict) -> MarkResult
     ensures { λ r. ⌜ r ≡ markResult desk (MarkAnswer.Marked number verdict) ⌝ }
 {
-    let sheet = desk.sheet;
+    let mut next = desk;
+    next.last = number;
     MarkResult {
-        desk: Desk {
-            sheet,
-            loaded: desk.loaded,
-            best: desk.best,
-            last: number,
-        },
+        desk: next,
         answer: MarkAnswer::Marked { number, verdict },
     }
 }
@@ -92,8 +88,13 @@ fn marked(desk: Desk, number: u16, verdict: Verdict) -> MarkResult
 pub(crate) fn first_no(desk: Desk, list: &[u8]) -> u8
     ensures { λ r. ⌜ r ≡ firstNo desk (now (list .entry)) ⌝ }
 {
-    let sheet = desk.sheet;
-    mark_no(desk.loaded, format::point_count(&sheet), desk.last, list)
+    let sheet = desk.held.sheet;
+    mark_no(
+        desk.held.loaded,
+        format::point_count(&sheet),
+        desk.last,
+        list,
+    )
 }
 
 // The answer to a mark whose first no is `no`, and the desk after it.

@@ -28,23 +28,36 @@ slice-aggregate-inside-count c = search needs
 inside-count-requires : tie.Need-inside-count-requires
 inside-count-requires c κs = search needs
 
-cast-with-sheet : tie.Need-cast-with-sheet
-cast-with-sheet c = search needs
+cast-best : tie.Need-cast-best
+cast-best c = search needs
 
-with-sheet-requires : tie.Need-with-sheet-requires
-with-sheet-requires c κs = made-short _ _ _ _ _ _ (c .before .before .before .before .before .before .before .before .before .before .blank-plate .ensures) (c .before .before .before .before .before .before .before .make .ensures) _ (c .before .before .enum-told .given .1)
+held-of-requires : tie.Need-held-of-requires
+held-of-requires c κs =
+    made-short _ _ _ _ _ _ (c .before .before .before .before .before .before .before .before .before .before .blank-plate .ensures)
+    (c .before .before .before .before .before .before .before .make .ensures) _ (c .before .before .enum-told .given .1)
+
+with-held-requires : tie.Need-with-held-requires
+with-held-requires c κs = search needs
 
 same-length : tie.Need-same-length
 same-length c = search needs
 
 returns : tie.Need-returns
-returns c = load-refused _ _ _ _ _ _ (c .before .before .before .before .before .before .before .before .before .before .blank-plate .ensures) (c .before .before .before .before .before .before .before .make .ensures) _ _ _ (c .before .before .no .given .1) (c .refused-load .ensures)
+returns c =
+    load-refused _ _ _ _ _ _ (c .before .before .before .before .before .before .before .before .before .before .blank-plate .ensures)
+    (c .before .before .before .before .before .before .before .make .ensures) _ _ _
+    (c .before .before .no .given .1) (c .refused-load .ensures)
 
 same-length-2 : tie.Need-same-length-2
 same-length-2 c = search needs
 
 returns-2 : tie.Need-returns-2
-returns-2 c = load-made _ _ _ _ _ _ (c .before .before .before .before .before .before .before .before .before .before .before .blank-plate .ensures) (c .before .before .before .before .before .before .before .before .make .ensures) _ _ _ _ (c .before .before .before .enum-told .given .1) (c .before .inside-count .ensures) (c .with-sheet .ensures)
+returns-2 c =
+    load-made _ _ _ _ _ _
+    (c .before .before .before .before .before .before .before .before .before .before .before .before .blank-plate .ensures)
+    (c .before .before .before .before .before .before .before .before .before .make .ensures) _ _ _ _ _
+    (c .before .before .before .before .enum-told .given .1) (c .before .before .inside-count .ensures)
+    (c .before .held-of .ensures) (c .with-held .ensures)
 
 pub load-spec : {M : Type 1} → statement M
 load-spec =
@@ -58,8 +71,9 @@ load-spec =
     enum-told
     slice-aggregate-inside-count
     inside-count-requires
-    cast-with-sheet
-    with-sheet-requires
+    cast-best
+    held-of-requires
+    with-held-requires
     same-length
     returns
     same-length-2

@@ -37,8 +37,11 @@ loop-less c = search needs
 loop-again : tie.Need-loop-again Inv-loop μ-loop
 loop-again c =
     let k = c .before .before .loop .k in
-    let s = c .before .before .before .before .before .args .sheet .now in
-    (search needs, ap (λ b. set b k (getD s k 0)) (c .before .before .loop .inv .1) ∙ copy-more noSheet s k (omega (arith, no-sheet-length)) (omega arith))
+    let s = c .before .before .before .before .before .args .sheet .now in (
+      search needs,
+      ap (λ b. set b k (getD s k 0)) (c .before .before .loop .inv .1)
+          ∙ copy-more noSheet s k (omega (arith, no-sheet-length)) (omega arith),
+    )
 
 returns : tie.Need-returns Inv-loop μ-loop
 returns c = c .before .loop .inv .1 ∙ copied (c .before .before .before .before .args .sheet .now) (c .before .loop .k) (omega arith)

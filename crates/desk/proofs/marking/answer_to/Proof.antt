@@ -15,7 +15,9 @@ returns : tie.Need-returns
 returns c = marking-exactly _ _ _ .1 (sym (mark-no _ _ _ (sym (c .before .before .pre)) (c .if1 .taken)))
 
 -- no question is answered no
-asked : (c : tie.Else1) → (((c .before .before .args .desk .loaded ≡ true) × Listed (pointCount (c .before .before .args .desk .sheet)) (c .before .before .args .list .now)) × ((c .before .before .args .desk .last < 9999) × Unit {0}))
+asked : (c : tie.Else1)
+    → let d = c .before .before .args .desk in
+    (((d .held .loaded ≡ true) × Listed (pointCount (d .held .sheet)) (c .before .before .args .list .now)) × ((d .last < 9999) × Unit {0}))
 asked c = none-mark _ _ _ _ .is (sym (c .before .before .pre) ∙ c .if1 .left)
 
 next-number-requires : tie.Need-next-number-requires
@@ -31,7 +33,8 @@ returns-2 : tie.Need-returns-2
 returns-2 c =
     marking-exactly _ _ _ .1
     (c .marked .ensures
-    ∙ ap₂ (λ n v. markResult (c .before .before .before .before .before .args .desk) (Marked n v)) (c .before .before .next-number .ensures) (c .before .verdict-of .ensures)
+    ∙ ap₂ (λ n v. markResult (c .before .before .before .before .before .args .desk) (Marked n v))
+    (c .before .before .next-number .ensures) (c .before .verdict-of .ensures)
     ∙ sym (mark-yes _ _ _ (sym (c .before .before .before .before .before .pre)) (c .before .before .before .if1 .left)))
 
 pub answer-to-spec : {M : Type 1} → statement M

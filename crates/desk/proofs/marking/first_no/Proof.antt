@@ -15,7 +15,9 @@ mark-no-requires : tie.Need-mark-no-requires
 mark-no-requires c κs = search needs
 
 returns : tie.Need-returns
-returns c = c .mark-no .ensures ∙ ap (λ n. markNo (c .before .before .before .before .before .args .desk .loaded) n (c .before .before .before .before .before .args .desk .last) (c .before .before .before .before .before .args .list .now)) (c .before .point-count .ensures)
+returns c =
+    let a = c .before .before .before .before .before .args in
+    c .mark-no .ensures ∙ ap (λ n. markNo (a .desk .held .loaded) n (a .desk .last) (a .list .now)) (c .before .point-count .ensures)
 
 pub first-no-spec : {M : Type 1} → statement M
 first-no-spec =

@@ -33,10 +33,14 @@ shortfall-of-requires : tie.Need-shortfall-of-requires
 shortfall-of-requires c κs = search needs
 
 returns : tie.Need-returns
-returns c = c .clash-named .ensures ∙ verdict-clash _ _ _ _ (c .before .before .before .before .first-clash .ensures) (c .before .before .first .given .1)
+returns c =
+    c .clash-named .ensures
+    ∙ verdict-clash _ _ _ _ (c .before .before .before .before .first-clash .ensures) (c .before .before .first .given .1)
 
 returns-2 : tie.Need-returns-2
-returns-2 c = verdict-valid _ _ _ _ (c .before .before .before .before .first-clash .ensures) (c .before .before .enum-told .given .1) (c .before .list-count .ensures) (c .shortfall-of .ensures)
+returns-2 c =
+    verdict-valid _ _ _ _ (c .before .before .before .before .first-clash .ensures)
+    (c .before .before .enum-told .given .1) (c .before .list-count .ensures) (c .shortfall-of .ensures)
 
 pub verdict-at-spec : {M : Type 1} → statement M
 verdict-at-spec =

@@ -27,7 +27,8 @@ returns c =
     let p = c .before .before .before .before .before .args .positions .now in
     let n = c .before .before .before .before .before .args .n in
     let e = c .before .entry-no .ensures in
-    e ∙ entries-first n p (c .before .before .before .loop .k) (length p) (c .before .before .before .loop .inv .1) (λ z. c .if1 .taken (e ∙ z)) (omega arith)
+    e ∙ entries-first n p (c .before .before .before .loop .k) (length p) (c .before .before .before .loop .inv .1)
+    (λ z. c .if1 .taken (e ∙ z)) (omega arith)
 
 add-k : tie.Need-add-k Inv-loop μ-loop
 add-k c = search needs
@@ -36,7 +37,10 @@ loop-less : tie.Need-loop-less Inv-loop μ-loop
 loop-less c = search needs
 
 loop-again : tie.Need-loop-again Inv-loop μ-loop
-loop-again c = (search needs, entries-more _ _ _ (c .before .before .before .loop .inv .1) (sym (c .before .entry-no .ensures) ∙ c .if1 .left))
+loop-again c = (
+  search needs,
+  entries-more _ _ _ (c .before .before .before .loop .inv .1) (sym (c .before .entry-no .ensures) ∙ c .if1 .left),
+)
 
 returns-2 : tie.Need-returns-2 Inv-loop μ-loop
 returns-2 c =

@@ -6,7 +6,7 @@ use native.Mathlib.Omega.{arith}
 use Rattle.format.specs.Asking.{ask-no, ask-yes}
 use Rattle.desk.specs.Questions.{entriesNo, listNo}
 use Rattle.desk.specs.Lists.{dec-counted}
-use Rattle.labeling.specs.RecurrenceTests.{dec-false}
+use Rattle.labeling.specs.Decide.{dec-false}
 use Rattle.desk.proofs.Laws.{all-after}
 use Rattle.desk.proofs.questions.list_no.Statement.{statement}
 use Rattle.desk.proofs.questions.list_no.Tie as tie
@@ -44,7 +44,8 @@ returns-3 : tie.Need-returns-3
 unfolding listNo
 returns-3 c =
     let l = c .before .before .before .before .before .before .args .list .now in
-    ask-yes _ 31 _ _ (dec-counted l .of (omega arith, c .before .before .if2 .left)) (c .entries-no .ensures ∙ ap (λ p. entriesNo (c .before .before .before .before .before .before .args .n) p (length p)) (all-after l))
+    ask-yes _ 31 _ _ (dec-counted l .of (omega arith, c .before .before .if2 .left))
+    (c .entries-no .ensures ∙ ap (λ p. entriesNo (c .before .before .before .before .before .before .args .n) p (length p)) (all-after l))
 
 pub list-no-spec : {M : Type 1} → statement M
 list-no-spec =

@@ -8,7 +8,9 @@ use Rattle.desk.proofs.questions.loaded_list_no.Tie as tie
 
 returns : tie.Need-returns
 unfolding loadedListNo
-returns c = ask-no (c .before .before .args .loaded) 51 (listNo (c .before .before .args .n) (c .before .before .args .list .now)) (not-true _ (c .if1 .taken))
+returns c =
+    ask-no (c .before .before .args .loaded) 51 (listNo (c .before .before .args .n) (c .before .before .args .list .now))
+    (not-true _ (c .if1 .taken))
 
 list-no-requires : tie.Need-list-no-requires
 list-no-requires c κs = search needs

@@ -1,8 +1,10 @@
 -- `desk::questions::mark_no` meets its contract. Assumes nothing.
-use mathlib.Core.Path.{refl, sym, _∙_}
+use mathlib.Core.Path.{_≡_, refl, sym, _∙_}
+use Prim.Native.Nat.{ℕ}
 use borrow.Author.Needs.{needs}
+use Rattle.format.specs.Sheet.{ask}
 use Rattle.format.specs.Asking.{ask-no, ask-yes, off, on, then-first, then-later}
-use Rattle.desk.specs.Questions.{markNo}
+use Rattle.desk.specs.Questions.{numberLeft, markNo}
 use Rattle.desk.proofs.questions.mark_no.Statement.{statement}
 use Rattle.desk.proofs.questions.mark_no.Tie as tie
 
@@ -16,13 +18,19 @@ returns c = let e = c .before .loaded-list-no .ensures in then-first _ _ _ (λ z
 number-left-requires : tie.Need-number-left-requires
 number-left-requires c κs = search needs
 
-returns-2 : tie.Need-returns-2
+-- 51 and 31 to 33 are answered yes, and 52 decides
+after-list : (c : tie.Else1) (x : ℕ) →
+    let a = c .before .before .before .args in
+    x ≡ ask (numberLeft (a .last)) 52 0 →
+    x ≡ markNo (a .loaded) (a .n) (a .last) (a .list .now)
 unfolding markNo
-returns-2 c = then-later _ _ _ (sym (c .before .before .before .loaded-list-no .ensures) ∙ c .before .before .if1 .left) (ask-no _ 52 _ (off _ _ (c .before .number-left .ensures) (c .if2 .taken)))
+after-list c x e = then-later _ _ _ (sym (c .before .loaded-list-no .ensures) ∙ c .if1 .left) e
+
+returns-2 : tie.Need-returns-2
+returns-2 c = after-list (c .before .before) _ (ask-no _ 52 _ (off _ _ (c .before .number-left .ensures) (c .if2 .taken)))
 
 returns-3 : tie.Need-returns-3
-unfolding markNo
-returns-3 c = then-later _ _ _ (sym (c .before .before .before .loaded-list-no .ensures) ∙ c .before .before .if1 .left) (ask-yes _ 52 _ _ (on _ _ (c .before .number-left .ensures) (c .if2 .left)) refl)
+returns-3 c = after-list (c .before .before) _ (ask-yes _ 52 _ _ (on _ _ (c .before .number-left .ensures) (c .if2 .left)) refl)
 
 pub mark-no-spec : {M : Type 1} → statement M
 mark-no-spec =
