@@ -13,7 +13,9 @@ use Rattle.lines.specs.Listing.{margins, used, columnsUsed, marginOf}
 pair : (l : List ℕ) (at : ℕ) → at + 1 < length l → drop at l ≡ getD l at 0 ∷ getD l (at + 1) 0 ∷ drop (at + 2) l
 pair l at h =
     let e : at + 2 ≡ suc (at + 1) = omega arith in
-    drop-cons l at 0 (omega arith) ∙ ap (λ k. getD l at 0 ∷ drop k l) (sym (add-one at)) ∙ ap (λ t. getD l at 0 ∷ t) (drop-cons l (at + 1) 0 h ∙ ap (λ k. getD l (at + 1) 0 ∷ drop k l) (sym e))
+    drop-cons l at 0 (omega arith)
+    ∙ ap (λ k. getD l at 0 ∷ drop k l) (sym (add-one at))
+    ∙ ap (λ t. getD l at 0 ∷ t) (drop-cons l (at + 1) 0 h ∙ ap (λ k. getD l (at + 1) 0 ∷ drop k l) (sym e))
 
 -- COLUMNS USED
 
@@ -31,7 +33,8 @@ module _ (l : List ℕ) (at u : ℕ) (e : max u (columnsUsed (drop at l)) ≡ co
   pub columns-more : at + 1 < length l → max (max u (getD l (at + 1) 0 + 1)) (columnsUsed (drop (at + 2) l)) ≡ columnsUsed l
   unfolding columnsUsed
   columns-more h =
-      let p : columnsUsed (drop at l) ≡ max (getD l (at + 1) 0 + 1) (columnsUsed (drop (at + 2) l)) = ap columnsUsed (pair l at h) ∙ used-more (getD l (at + 1) 0) (margins (drop (at + 2) l)) in
+      let p : columnsUsed (drop at l) ≡ max (getD l (at + 1) 0 + 1) (columnsUsed (drop (at + 2) l)) =
+      ap columnsUsed (pair l at h) ∙ used-more (getD l (at + 1) 0) (margins (drop (at + 2) l)) in
       omega arith
 
   pub columns-end : length l ≤ at + 1 → u ≡ columnsUsed l

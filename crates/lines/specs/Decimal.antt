@@ -7,7 +7,7 @@ use lib.ListN.{length, getD, length-append, List·getD-append}
 use lib.Seq.{getD-append-add}
 use borrow.Author.Tests.{ltb-true, ltb-false, lt-ltb, le-ltb}
 use native.Mathlib.Omega.{arith}
-use Rattle.labeling.specs.Tests.{decide, same}
+use Rattle.labeling.specs.Decide.{decide, same}
 use Rattle.lines.specs.Text.{digit, decimalIn, decimal, readFrom, readDecimal}
 
 -- THE STEPS: a number below 10 is one digit, any other has its last digit at its end
@@ -40,13 +40,15 @@ unfolding decimal
 decimal-step n s = in-step n n s ∙ ap (λ t. t ++ digit (n % 10) ∷ []) (in-enough n (suc (n / 10)) (n / 10) (omega arith) (omega arith))
 
 -- what holds of digits and goes on from a number to one with a digit more holds of every number
-module _ (P : ℕ → List ℕ → Type 0) (small : (n : ℕ) → n < 10 → P n (digit n ∷ [])) (step : (n : ℕ) (l : List ℕ) → 10 ≤ n → P (n / 10) l → P n (l ++ digit (n % 10) ∷ [])) where
+module _ (P : ℕ → List ℕ → Type 0) (small : (n : ℕ) → n < 10 → P n (digit n ∷ []))
+    (step : (n : ℕ) (l : List ℕ) → 10 ≤ n → P (n / 10) l → P n (l ++ digit (n % 10) ∷ [])) where
   by-digits-in : (k n : ℕ) → n < k → P n (decimal n)
   by-digits-in zero n l = absurd (omega arith)
   by-digits-in (suc k) n l =
       decide (ltb n 10)
       (λ e. let s : n < 10 = ltb-true n 10 e in rw (decimal-small n s) (small n s))
-      (λ e. let s : 10 ≤ n = ltb-false n 10 e in rw (decimal-step n s) (step n (decimal (n / 10)) s (by-digits-in k (n / 10) (omega arith))))
+      (λ e.
+      let s : 10 ≤ n = ltb-false n 10 e in rw (decimal-step n s) (step n (decimal (n / 10)) s (by-digits-in k (n / 10) (omega arith))))
 
   by-digits : (n : ℕ) → P n (decimal n)
   by-digits n = by-digits-in (suc n) n (omega arith)

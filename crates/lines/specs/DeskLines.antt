@@ -20,7 +20,7 @@ refusalLine k = ascii "refused" ++ spaced k ++ ascii "\n"
 
 -- The line of an accepted sheet: the point count and the best count of the desk that has it.
 unfoldable pub loadedLine : Desk → List ℕ
-loadedLine d = ascii "loaded" ++ spaced (pointCount (d .sheet)) ++ spaced (d .best) ++ ascii "\n"
+loadedLine d = ascii "loaded" ++ spaced (pointCount (d .held .sheet)) ++ spaced (d .held .best) ++ ascii "\n"
 
 -- The line of a load with this answer, which gave the desk d.
 abbrev pub loadLine : LoadAnswer → Desk → List ℕ

@@ -3,11 +3,13 @@ use mathlib.Core.Path.{_≡_, refl}
 use mathlib.Core.Bool.{Bool, true, _&&_}
 use mathlib.Core.List.{List, [], _∷_, _++_}
 use Prim.Native.Nat.{ℕ}
-use Rattle.labeling.specs.Margin.{among}
-use Rattle.labeling.specs.Tests.{and-left, and-right}
+use Rattle.labeling.specs.Points.{among}
+use Rattle.labeling.specs.Decide.{and-left, and-right}
 use Rattle.format.specs.Bytes.{sameBytes, dec-bytes}
+use Rattle.format.specs.Padded.{padded}
 use Rattle.format.specs.Sheet.{twoBytes}
 use Rattle.clash.specs.declared.ClashKind.the-variants.{Labels, LabelAndLeader}
+use Rattle.desk.specs.Desk.{heldOf, withHeld, fresh}
 use Rattle.desk.specs.declared.Desk.{Desk}
 use Rattle.desk.specs.declared.LoadAnswer.the-variants.{Accepted, Refused}
 use Rattle.desk.specs.declared.MarkAnswer.the-variants.{Marked, Refused as RefusedMark}
@@ -30,13 +32,19 @@ table =
     -- P1: "writes exactly"
     record { plate = sheet1 ++ 2 ∷ 1 ∷ 2 ∷ 1 ∷ 0 ∷ 0 ∷ []; text = ascii "plate 3 2 1\n17 out 0\n18 in\n19 in\n" } ∷
     -- the outside points take columns 0, 1, 0: two columns are used
-    record { plate = sheetOfFive ++ 2 ∷ 0 ∷ 1 ∷ 3 ∷ 2 ∷ 0 ∷ 3 ∷ 1 ∷ 4 ∷ 0 ∷ []; text = ascii "plate 5 2 2\n1 in\n2 in\n3 out 0\n4 out 1\n5 out 0\n" } ∷
+    record {
+      plate = sheetOfFive ++ 2 ∷ 0 ∷ 1 ∷ 3 ∷ 2 ∷ 0 ∷ 3 ∷ 1 ∷ 4 ∷ 0 ∷ [];
+      text = ascii "plate 5 2 2\n1 in\n2 in\n3 out 0\n4 out 1\n5 out 0\n";
+    } ∷
     -- P2: the first point in column 1, the second in column 0
     record { plate = sheet2 ++ 1 ∷ 2 ∷ 2 ∷ 1 ∷ 0 ∷ 0 ∷ 1 ∷ []; text = ascii "plate 3 1 2\n1 out 1\n2 out 0\n3 in\n" } ∷
     -- P10: no point
     record { plate = sheet 4 2 0 (0 ∷ 0 ∷ []); text = ascii "plate 0 0 0\n" } ∷
     -- call numbers of three and of four digits, with zeros in them
-    record { plate = sheet 4 2 2 (100 ∷ 0 ∷ 2 ∷ 0 ∷ 3 ∷ 0 ∷ 232 ∷ 3 ∷ 6 ∷ 0 ∷ 4 ∷ 0 ∷ 2 ∷ 0 ∷ 1 ∷ 0 ∷ []); text = ascii "plate 2 2 0\n100 in\n1000 in\n" } ∷
+    record {
+      plate = sheet 4 2 2 (100 ∷ 0 ∷ 2 ∷ 0 ∷ 3 ∷ 0 ∷ 232 ∷ 3 ∷ 6 ∷ 0 ∷ 4 ∷ 0 ∷ 2 ∷ 0 ∷ 1 ∷ 0 ∷ []);
+      text = ascii "plate 2 2 0\n100 in\n1000 in\n";
+    } ∷
     -- no plate: no bytes at all; P1 without its last byte, the margin column of its pair; P1's sheet alone
     record { plate = []; text = ascii "plate 0 0 0\n" } ∷
     record { plate = sheet1 ++ 2 ∷ 1 ∷ 2 ∷ 1 ∷ 0 ∷ []; text = ascii "plate 3 2 0\n17 out 0\n18 in\n19 in\n" } ∷
@@ -56,7 +64,8 @@ each (c ∷ cs) e = (dec-bytes _ _ .is (and-left _ _ e), each cs (and-right (sam
 
 -- THE TABLE'S THEOREM: every plate has its listing.
 pub all-listed : Each table
-unfolding twoBytes among insideList outsidePairs decimalIn decimal spaced columnsUsed marginOf firstLine place pointLine pointLines listingOf
+unfolding twoBytes among insideList outsidePairs decimalIn decimal spaced columnsUsed
+    marginOf firstLine place pointLine pointLines listingOf
 all-listed = each table refl
 
 -- THE DESK'S LINES, and a refusal's
@@ -67,16 +76,18 @@ refused-16 = refl
 
 -- A desk with a sheet of 12 points whose best count is 10.
 abbrev twelve : Desk
-twelve = record { sheet = 1 ∷ 20 ∷ 0 ∷ 10 ∷ 0 ∷ 4 ∷ 0 ∷ 2 ∷ 0 ∷ 12 ∷ []; loaded = true; best = 10; last = 0 }
+twelve = withHeld fresh (heldOf (1 ∷ 20 ∷ 0 ∷ 10 ∷ 0 ∷ 4 ∷ 0 ∷ 2 ∷ 0 ∷ 12 ∷ []) 10)
 
 pub load-lines : (loadLine Accepted twelve ≡ ascii "loaded 12 10\n") × (loadLine (Refused 22) twelve ≡ ascii "refused 22\n")
-unfolding decimalIn decimal spaced refusalLine loadedLine
+unfolding padded decimalIn decimal spaced refusalLine loadedLine
 load-lines = (refl, refl)
 
 -- "On P1, a fresh desk gives list 02 01 02 number 1, count 2, shortfall 0; 01 00 number 2, clash of 0 and 1; 00 number 3, shortfall 2."
 pub mark-lines :
-    (markLine (Marked 1 (Valid 2 0)) ≡ ascii "1 valid 2 0\n") × (markLine (Marked 2 (Clash 0 1 LabelAndLeader)) ≡ ascii "2 clash 0 1 leader\n") ×
-    (markLine (Marked 3 (Valid 0 2)) ≡ ascii "3 valid 0 2\n") × (markLine (Marked 120 (Clash 9 31 Labels)) ≡ ascii "120 clash 9 31 labels\n") ×
+    (markLine (Marked 1 (Valid 2 0)) ≡ ascii "1 valid 2 0\n") ×
+    (markLine (Marked 2 (Clash 0 1 LabelAndLeader)) ≡ ascii "2 clash 0 1 leader\n") ×
+    (markLine (Marked 3 (Valid 0 2)) ≡ ascii "3 valid 0 2\n") ×
+    (markLine (Marked 120 (Clash 9 31 Labels)) ≡ ascii "120 clash 9 31 labels\n") ×
     (markLine (RefusedMark 51) ≡ ascii "refused 51\n")
 unfolding decimalIn decimal spaced refusalLine validText clashText markedLine
 mark-lines = (refl, refl, refl, refl, refl)

@@ -6,16 +6,15 @@ use Prim.Native.Nat.{ℕ, zero, suc, _+_, _*_, _≤_, _<_}
 use lib.ListN.{length, getD, length-append, List·getD-append}
 use native.Mathlib.Nat.{le-refl}
 use native.Mathlib.Omega.{arith}
-use Rattle.labeling.specs.Points.{Choice, Placed, outside, placed, marginIn, marginColumn}
+use Rattle.labeling.specs.Points.{Choice, Placed, outside, placed, marginIn, marginColumn, among}
 use Rattle.labeling.specs.Best.{weight, count}
-use Rattle.labeling.specs.Margin.{among}
 use Rattle.format.specs.Sheet.{twoBytes, pointCount, callNumber, pointsOf, sheetLength}
 use Rattle.format.specs.Accepted.{Accepted}
 use Rattle.format.specs.Plate.{insideSection, pairs, outsideSection, plateOf}
 use Rattle.format.specs.PlateLength.{inside-length}
 use Rattle.plate_reader.specs.PlateQuestions.{insideCount, insideList, outsidePairs}
 use Rattle.plate_reader.specs.DemandTwoReader.{parts}
-use Rattle.plate_reader.specs.InsideList.{choice-of-list}
+use Rattle.format.specs.InsideList.{choice-of-list}
 use Rattle.lines.specs.Text.{ascii, decimal, spaced}
 use Rattle.lines.specs.Listing.{margins, used, columnsUsed, marginOf, firstLine, place, pointLine, pointLines, listingOf}
 
@@ -36,7 +35,8 @@ choiceLines s S (suc m) = choiceLines s S m ++ choiceLine s S m
 -- position's line.
 unfoldable pub choiceListing : List ℕ → Choice → List ℕ
 choiceListing s S =
-    ascii "plate" ++ spaced (pointCount s) ++ spaced (count (pointsOf s) S) ++ spaced (used (marginsOf (placed (pointsOf s) (outside (pointsOf s) S)))) ++ ascii "\n" ++
+    ascii "plate" ++ spaced (pointCount s) ++ spaced (count (pointsOf s) S) ++
+    spaced (used (marginsOf (placed (pointsOf s) (outside (pointsOf s) S)))) ++ ascii "\n" ++
     choiceLines s S (pointCount s)
 
 -- pairs read as what they were written from
@@ -57,7 +57,8 @@ module _ (s : List ℕ) (S : Choice) (a : Accepted s) where
   byte-same k l =
       let long : length s ≡ sheetLength s = a .long in
       let more : length (s ++ insideSection s S) ≡ length s + length (insideSection s S) = length-append s (insideSection s S) in
-      List·getD-append (s ++ insideSection s S) (outsideSection s S) 0 k (omega arith) ∙ List·getD-append s (insideSection s S) 0 k (omega arith)
+      List·getD-append (s ++ insideSection s S) (outsideSection s S) 0 k (omega arith)
+      ∙ List·getD-append s (insideSection s S) 0 k (omega arith)
 
   call-same : (i : ℕ) → i < pointCount s → callNumber (plateOf s S) i ≡ callNumber s i
   unfolding twoBytes

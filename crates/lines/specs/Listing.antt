@@ -4,7 +4,7 @@ use mathlib.Core.Bool.{Bool, cond}
 use mathlib.Core.List.{List, [], _∷_, _++_}
 use Prim.Native.Nat.{ℕ, zero, suc, _+_, max}
 use lib.Dec.{eqb}
-use Rattle.labeling.specs.Margin.{among}
+use Rattle.labeling.specs.Points.{among}
 use Rattle.format.specs.Sheet.{pointCount, callNumber}
 use Rattle.plate_reader.specs.PlateQuestions.{insideCount, insideList, outsidePairs}
 use Rattle.lines.specs.Text.{ascii, decimal, spaced}

@@ -32,7 +32,7 @@ refusal-some k = ended (ascii "refused" ++ spaced k)
 
 pub load-some : (a : LoadAnswer) (d : Desk) → 1 ≤ length (loadLine a d)
 unfolding loadedLine
-load-some Accepted d = ended (ascii "loaded" ++ spaced (pointCount (d .sheet)) ++ spaced (d .best))
+load-some Accepted d = ended (ascii "loaded" ++ spaced (pointCount (d .held .sheet)) ++ spaced (d .held .best))
 load-some (Refused k) d = refusal-some k
 
 pub mark-some : (a : MarkAnswer) → 1 ≤ length (markLine a)

@@ -8,15 +8,16 @@ use desk::Desk;
 use desk::Verdict;
 ghost use Prim.Native.Nat.{_+_, _≤_};
 ghost use lib.ListN.{length};
+ghost use Rattle.lines.specs.Rooms.{lineRoom};
 ghost use Rattle.lines.specs.DeskLines.{refusalLine, loadedLine, kindWord, validText, clashText, verdictText, markedLine};
 ghost use Rattle.lines.specs.Writing.{Put};
 
-pub(crate) fn put_refusal(text: &mut [u8], number: u8) -> usize
+pub(crate) fn put_refusal(text: &mut [u8], no: u8) -> usize
     requires { ⌜ 14 ≤ length (now text) ⌝ }
-    ensures { λ r. ⌜ Put 14 (now (text .entry)) 0 (refusalLine number) r (now (text .exit)) ⌝ }
+    ensures { λ r. ⌜ Put 14 (now (text .entry)) 0 (refusalLine no) r (now (text .exit)) ⌝ }
 {
     let word = put_word(text, 0, b"refused");
-    let refused = put_number(text, word, number as u16);
+    let refused = put_number(text, word, no as u16);
     put_end(text, refused)
 }
 
@@ -25,10 +26,10 @@ pub(crate) fn put_loaded(text: &mut [u8], desk: Desk) -> usize
     requires { ⌜ 19 ≤ length (now text) ⌝ }
     ensures { λ r. ⌜ Put 19 (now (text .entry)) 0 (loadedLine desk) r (now (text .exit)) ⌝ }
 {
-    let sheet = desk.sheet;
+    let sheet = desk.held.sheet;
     let word = put_word(text, 0, b"loaded");
     let points = put_number(text, word, format::point_count(&sheet) as u16);
-    let best = put_number(text, points, desk.best);
+    let best = put_number(text, points, desk.held.best);
     put_end(text, best)
 }
 
@@ -76,8 +77,8 @@ fn put_verdict(text: &mut [u8], at: usize, verdict: Verdict) -> usize
 }
 
 pub(crate) fn put_marked(text: &mut [u8], number: u16, verdict: Verdict) -> usize
-    requires { ⌜ 31 ≤ length (now text) ⌝ }
-    ensures { λ r. ⌜ Put 31 (now (text .entry)) 0 (markedLine number verdict) r (now (text .exit)) ⌝ }
+    requires { ⌜ lineRoom ≤ length (now text) ⌝ }
+    ensures { λ r. ⌜ Put lineRoom (now (text .entry)) 0 (markedLine number verdict) r (now (text .exit)) ⌝ }
 {
     let numbered = put_decimal(text, 0, number);
     let judged = put_verdict(text, numbered, verdict);

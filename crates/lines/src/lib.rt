@@ -10,12 +10,10 @@ use desk_lines::put_refusal;
 use plate_lines::put_listing;
 use text::fit;
 ghost use mathlib.Core.Path.{_≡_};
-ghost use Prim.Native.Nat.{_+_, _*_};
 ghost use lib.ListN.{length};
-ghost use Rattle.format.specs.Sheet.{pointCount};
-ghost use Rattle.lines.specs.Listing.{listingOf};
+ghost use Rattle.lines.specs.Rooms.{lineRoom, listingRoom, mostPoints};
 ghost use Rattle.lines.specs.DeskLines.{refusalLine, loadedLine, loadLine, markedLine, markLine};
-ghost use Rattle.lines.specs.Writing.{Prints};
+ghost use Rattle.lines.specs.Writing.{Prints, PrintsListing};
 
 mod desk_lines;
 mod plate_lines;
@@ -30,13 +28,13 @@ pub const LINE_ROOM: usize = 31;
 const LISTING_ROOM: usize = 4104;
 
 fn listing_room() -> [u8; LISTING_ROOM]
-    ensures { λ r. ⌜ 4104 ≡ length r ⌝ }
+    ensures { λ r. ⌜ listingRoom mostPoints ≡ length r ⌝ }
 {
     [0; LISTING_ROOM]
 }
 
 fn line_room() -> [u8; LINE_ROOM]
-    ensures { λ r. ⌜ 31 ≡ length r ⌝ }
+    ensures { λ r. ⌜ lineRoom ≡ length r ⌝ }
 {
     [0; LINE_ROOM]
 }
@@ -44,7 +42,7 @@ fn line_room() -> [u8; LINE_ROOM]
 // The listing of a plate: points, inside count and margin columns used; then each point in sheet order. For n points 24 + 16 · n bytes are
 // enough.
 pub fn listing(plate: &[u8], buffer: &mut [u8]) -> usize
-    ensures { λ r. ⌜ Prints (24 + 16 * pointCount (now (plate .entry))) (listingOf (now (plate .entry))) (now (buffer .entry)) r (now (buffer .exit)) ⌝ }
+    ensures { λ r. ⌜ PrintsListing (now (plate .entry)) (now (buffer .entry)) r (now (buffer .exit)) ⌝ }
 {
     let mut room = listing_room();
     let length = put_listing(&mut room, plate);
@@ -52,11 +50,11 @@ pub fn listing(plate: &[u8], buffer: &mut [u8]) -> usize
 }
 
 // The line of a refusal.
-pub fn refusal_line(number: u8, buffer: &mut [u8]) -> usize
-    ensures { λ r. ⌜ Prints 14 (refusalLine number) (now (buffer .entry)) r (now (buffer .exit)) ⌝ }
+pub fn refusal_line(no: u8, buffer: &mut [u8]) -> usize
+    ensures { λ r. ⌜ Prints 14 (refusalLine no) (now (buffer .entry)) r (now (buffer .exit)) ⌝ }
 {
     let mut room = line_room();
-    let length = put_refusal(&mut room, number);
+    let length = put_refusal(&mut room, no);
     fit(&room[..length], buffer)
 }
 
@@ -69,7 +67,7 @@ fn loaded_line(desk: Desk, buffer: &mut [u8]) -> usize
 }
 
 fn marked_line(number: u16, verdict: Verdict, buffer: &mut [u8]) -> usize
-    ensures { λ r. ⌜ Prints 31 (markedLine number verdict) (now (buffer .entry)) r (now (buffer .exit)) ⌝ }
+    ensures { λ r. ⌜ Prints lineRoom (markedLine number verdict) (now (buffer .entry)) r (now (buffer .exit)) ⌝ }
 {
     let mut room = line_room();
     let length = put_marked(&mut room, number, verdict);
@@ -78,20 +76,20 @@ fn marked_line(number: u16, verdict: Verdict, buffer: &mut [u8]) -> usize
 
 // The line of a load with this answer, which gave the desk.
 pub fn load_line(answer: LoadAnswer, desk: Desk, buffer: &mut [u8]) -> usize
-    ensures { λ r. ⌜ Prints 31 (loadLine answer desk) (now (buffer .entry)) r (now (buffer .exit)) ⌝ }
+    ensures { λ r. ⌜ Prints lineRoom (loadLine answer desk) (now (buffer .entry)) r (now (buffer .exit)) ⌝ }
 {
     match answer {
         LoadAnswer::Accepted => loaded_line(desk, buffer),
-        LoadAnswer::Refused(number) => refusal_line(number, buffer),
+        LoadAnswer::Refused(no) => refusal_line(no, buffer),
     }
 }
 
 // The line of a mark with this answer.
 pub fn mark_line(answer: MarkAnswer, buffer: &mut [u8]) -> usize
-    ensures { λ r. ⌜ Prints 31 (markLine answer) (now (buffer .entry)) r (now (buffer .exit)) ⌝ }
+    ensures { λ r. ⌜ Prints lineRoom (markLine answer) (now (buffer .entry)) r (now (buffer .exit)) ⌝ }
 {
     match answer {
         MarkAnswer::Marked { number, verdict } => marked_line(number, verdict, buffer),
-        MarkAnswer::Refused(number) => refusal_line(number, buffer),
+        MarkAnswer::Refused(no) => refusal_line(no, buffer),
     }
 }

@@ -9,16 +9,17 @@ use crate::text::put_word;
 use clash::choice_of;
 use format::point_count;
 use plate_reader::inside_count;
-ghost use Prim.Native.Nat.{_+_, _*_, _≤_};
+ghost use Prim.Native.Nat.{_+_, _≤_};
 ghost use lib.ListN.{length};
-ghost use Rattle.format.specs.Sheet.{pointCount};
-ghost use Rattle.lines.specs.Listing.{firstLine, pointLines, listingOf};
-ghost use Rattle.lines.specs.Writing.{Put};
+ghost use Rattle.lines.specs.Rooms.{firstLineRoom, pointsRoom, listingRoom, mostPoints};
+ghost use Rattle.lines.specs.Listing.{firstLine};
+ghost use Rattle.lines.specs.Writing.{Put, PutPoints, PutListing};
 
 // Each point in sheet order: at most 255 of them, with at most 16 bytes each.
 fn put_points(text: &mut [u8], at: usize, plate: &[u8]) -> usize
-    requires { ⌜ at + 4080 ≤ length (now text) ⌝ }
-    ensures { λ r. ⌜ Put (16 * pointCount (now (plate .entry))) (now (text .entry)) at (pointLines (now (plate .entry)) (pointCount (now (plate .entry)))) r (now (text .exit)) × (r ≤ at + 4080) ⌝ }
+    requires { ⌜ at + pointsRoom mostPoints ≤ length (now text) ⌝ }
+    ensures { λ r. ⌜ PutPoints (now (plate .entry)) (now (text .entry)) at r (now (text .exit)) ⌝ }
+    ensures { λ r. ⌜ r ≤ at + pointsRoom mostPoints ⌝ }
 {
     let n = point_count(plate);
     let inside = choice_of(inside_positions(plate));
@@ -34,8 +35,8 @@ fn put_points(text: &mut [u8], at: usize, plate: &[u8]) -> usize
 
 // Points, inside count and margin columns used.
 fn put_first_line(text: &mut [u8], plate: &[u8]) -> usize
-    requires { ⌜ 24 ≤ length (now text) ⌝ }
-    ensures { λ r. ⌜ Put 24 (now (text .entry)) 0 (firstLine (now (plate .entry))) r (now (text .exit)) ⌝ }
+    requires { ⌜ firstLineRoom ≤ length (now text) ⌝ }
+    ensures { λ r. ⌜ Put firstLineRoom (now (text .entry)) 0 (firstLine (now (plate .entry))) r (now (text .exit)) ⌝ }
 {
     let word = put_word(text, 0, b"plate");
     let points = put_number(text, word, point_count(plate) as u16);
@@ -46,8 +47,9 @@ fn put_first_line(text: &mut [u8], plate: &[u8]) -> usize
 
 // The listing at the start of the text, and its length.
 pub(crate) fn put_listing(text: &mut [u8], plate: &[u8]) -> usize
-    requires { ⌜ 4104 ≤ length (now text) ⌝ }
-    ensures { λ r. ⌜ Put (24 + 16 * pointCount (now (plate .entry))) (now (text .entry)) 0 (listingOf (now (plate .entry))) r (now (text .exit)) × (r ≤ 4104) ⌝ }
+    requires { ⌜ listingRoom mostPoints ≤ length (now text) ⌝ }
+    ensures { λ r. ⌜ PutListing (now (plate .entry)) (now (text .entry)) r (now (text .exit)) ⌝ }
+    ensures { λ r. ⌜ r ≤ listingRoom mostPoints ⌝ }
 {
     let next = put_first_line(text, plate);
     put_points(text, next, plate)

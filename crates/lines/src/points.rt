@@ -10,13 +10,15 @@ ghost use Prim.Native.Nat.{_+_, _≤_};
 ghost use lib.ListN.{length};
 ghost use Rattle.plate_reader.specs.PlateQuestions.{insideList, outsidePairs};
 ghost use Rattle.clash.specs.ChoiceFlags.{flagsOf, held};
+ghost use Rattle.lines.specs.Rooms.{pointRoom};
 ghost use Rattle.lines.specs.Listing.{marginOf, place, pointLine};
 ghost use Rattle.lines.specs.Writing.{Put};
 
 // `in`, or `out` and the margin column.
 fn put_place(text: &mut [u8], at: usize, inside: &[bool; 256], pairs: &[u8], position: u8) -> usize
     requires { ⌜ at + 10 ≤ length (now text) ⌝ }
-    ensures { λ r. ⌜ Put 10 (now (text .entry)) at (place (held (now (inside .entry)) position) (marginOf position (now (pairs .entry)))) r (now (text .exit)) ⌝ }
+    ensures { λ r. ⌜ Put 10 (now (text .entry)) at
+        (place (held (now (inside .entry)) position) (marginOf position (now (pairs .entry)))) r (now (text .exit)) ⌝ }
 {
     if inside[position as usize] {
         return put_word(text, at, b" in");
@@ -34,8 +36,9 @@ pub(crate) fn put_point(
     pairs: &[u8],
     position: u8,
 ) -> usize
-    requires { ⌜ (at + 16 ≤ length (now text)) × (now inside ≡ flagsOf (insideList (now plate))) × (now pairs ≡ outsidePairs (now plate)) ⌝ }
-    ensures { λ r. ⌜ Put 16 (now (text .entry)) at (pointLine (now (plate .entry)) position) r (now (text .exit)) ⌝ }
+    requires { ⌜ at + pointRoom ≤ length (now text) ⌝ }
+    requires { ⌜ (now inside ≡ flagsOf (insideList (now plate))) × (now pairs ≡ outsidePairs (now plate)) ⌝ }
+    ensures { λ r. ⌜ Put pointRoom (now (text .entry)) at (pointLine (now (plate .entry)) position) r (now (text .exit)) ⌝ }
 {
     let called = put_decimal(text, at, call_number(plate, position));
     let placed = put_place(text, called, inside, pairs, position);

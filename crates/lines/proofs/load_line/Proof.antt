@@ -21,13 +21,16 @@ same-length : tie.Need-same-length
 same-length c = search needs
 
 returns : tie.Need-returns
-returns c = rw (c .before .before .before .before .enum-told .given .1) (prints-looser (omega arith) (c .before .before .loaded-line .ensures))
+returns c =
+    rw (c .before .before .before .before .enum-told .given .1) (prints-looser (omega arith) (c .before .before .loaded-line .ensures))
 
 same-length-2 : tie.Need-same-length-2
 same-length-2 c = search needs
 
 returns-2 : tie.Need-returns-2
-returns-2 c = rw (c .before .before .before .before .before .answer .given .1) (prints-looser (omega arith) (c .before .before .refusal-line .ensures))
+returns-2 c =
+    rw (c .before .before .before .before .before .answer .given .1)
+    (prints-looser (omega arith) (c .before .before .refusal-line .ensures))
 
 pub load-line-spec : {M : Type 1} → statement M
 load-line-spec =

@@ -27,7 +27,9 @@ same-length-2 : tie.Need-same-length-2
 same-length-2 c = search needs
 
 returns-2 : tie.Need-returns-2
-returns-2 c = rw (c .before .before .before .before .before .answer2 .given .1) (prints-looser (omega arith) (c .before .before .refusal-line .ensures))
+returns-2 c =
+    rw (c .before .before .before .before .before .answer2 .given .1)
+    (prints-looser (omega arith) (c .before .before .refusal-line .ensures))
 
 pub mark-line-spec : {M : Type 1} → statement M
 mark-line-spec =

@@ -29,8 +29,19 @@ same-length c = search needs
 returns : tie.Need-returns
 unfolding clashText
 returns c =
-    let room : c .before .before .before .before .before .before .before .before .before .before .before .before .before .before .before .before .before .before .args .at + 25 ≤ length (c .before .before .before .before .before .before .before .before .before .before .before .before .before .before .before .before .before .before .args .text .now) = c .before .before .before .before .before .before .before .before .before .before .before .before .before .before .before .before .before .before .pre in
-    put-more (omega arith) (put-more (omega arith) (put-more (omega arith) (c .before .before .before .before .before .before .before .before .before .before .before .before .before .before .put-word .ensures) (c .before .before .before .before .before .before .before .before .before .before .put-number .ensures)) (c .before .before .before .before .before .before .put-number2 .ensures)) (c .before .before .put-kind .ensures)
+    let room : c .before .before .before .before .before .before .before .before .before .before .before .before .before .before .before
+    .before .before .before .args .at + 25
+    ≤ length (c .before .before .before .before .before .before .before .before .before .before .before .before .before .before .before
+    .before .before .before .args .text .now) =
+    c .before .before .before .before .before .before .before .before .before .before .before .before .before .before .before .before
+    .before .before .pre in
+    put-more (omega arith)
+    (put-more (omega arith)
+    (put-more (omega arith)
+    (c .before .before .before .before .before .before .before .before .before .before .before .before .before .before .put-word .ensures)
+    (c .before .before .before .before .before .before .before .before .before .before .put-number .ensures))
+    (c .before .before .before .before .before .before .put-number2 .ensures))
+    (c .before .before .put-kind .ensures)
 
 pub put-clash-spec : {M : Type 1} → statement M
 put-clash-spec =

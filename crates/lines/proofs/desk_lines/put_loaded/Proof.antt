@@ -40,9 +40,22 @@ same-length c = search needs
 returns : tie.Need-returns
 unfolding loadedLine
 returns c =
-    let room : 19 ≤ length (c .before .before .before .before .before .before .before .before .before .before .before .before .before .before .before .before .before .before .before .before .before .args .text .now) = c .before .before .before .before .before .before .before .before .before .before .before .before .before .before .before .before .before .before .before .before .before .pre in
-    let points : c .before .before .before .before .before .before .before .before .before .before .before .point-count .result ≡ pointCount (c .before .before .before .before .before .before .before .before .before .before .before .before .before .before .before .before .before .before .before .before .before .args .desk .sheet) = c .before .before .before .before .before .before .before .before .before .before .before .point-count .ensures in
-    put-more (omega arith) (put-more (omega arith) (put-more (omega arith) (c .before .before .before .before .before .before .before .before .before .before .before .before .before .before .before .before .put-word .ensures) (rw points at (c .before .before .before .before .before .before .before .before .before .before .put-number .ensures))) (c .before .before .before .before .before .before .put-number2 .ensures)) (c .before .before .put-end .ensures)
+    let room : 19 ≤ length (c .before .before .before .before .before .before .before .before .before .before .before .before .before
+    .before .before .before .before .before .before .before .before .args .text .now) =
+    c .before .before .before .before .before .before .before .before .before .before .before .before .before .before .before .before
+    .before .before .before .before .before .pre in
+    let points : c .before .before .before .before .before .before .before .before .before .before .before .point-count .result
+    ≡ pointCount (c .before .before .before .before .before .before .before .before .before .before .before .before .before .before .before
+    .before .before .before .before .before .before .args .desk .held .sheet) =
+    c .before .before .before .before .before .before .before .before .before .before .before .point-count .ensures in
+    put-more (omega arith)
+    (put-more (omega arith)
+    (put-more (omega arith)
+    (c .before .before .before .before .before .before .before .before .before .before .before .before .before .before .before .before
+    .put-word .ensures)
+    (rw points at (c .before .before .before .before .before .before .before .before .before .before .put-number .ensures)))
+    (c .before .before .before .before .before .before .put-number2 .ensures))
+    (c .before .before .put-end .ensures)
 
 pub put-loaded-spec : {M : Type 1} → statement M
 put-loaded-spec =

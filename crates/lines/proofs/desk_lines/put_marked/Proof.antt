@@ -3,6 +3,7 @@ use borrow.Author.Needs.{needs}
 use Prim.Native.Nat.{_≤_}
 use lib.ListN.{length}
 use native.Mathlib.Omega.{arith}
+use Rattle.lines.specs.Rooms.{lineRoom}
 use Rattle.lines.specs.DeskLines.{markedLine}
 use Rattle.lines.specs.Writing.{put-more}
 use Rattle.lines.proofs.desk_lines.put_marked.Statement.{statement}
@@ -23,8 +24,13 @@ same-length c = search needs
 returns : tie.Need-returns
 unfolding markedLine
 returns c =
-    let room : 31 ≤ length (c .before .before .before .before .before .before .before .before .before .before .before .before .before .args .text .now) = c .before .before .before .before .before .before .before .before .before .before .before .before .before .pre in
-    put-more (omega arith) (put-more (omega arith) (c .before .before .before .before .before .before .before .before .before .before .put-decimal .ensures) (c .before .before .before .before .before .before .put-verdict .ensures)) (c .before .before .put-end .ensures)
+    let room : lineRoom ≤
+    length (c .before .before .before .before .before .before .before .before .before .before .before .before .before .args .text .now) =
+    c .before .before .before .before .before .before .before .before .before .before .before .before .before .pre in
+    put-more (omega arith)
+    (put-more (omega arith) (c .before .before .before .before .before .before .before .before .before .before .put-decimal .ensures)
+    (c .before .before .before .before .before .before .put-verdict .ensures))
+    (c .before .before .put-end .ensures)
 
 pub put-marked-spec : {M : Type 1} → statement M
 put-marked-spec =

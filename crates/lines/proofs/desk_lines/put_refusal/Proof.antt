@@ -26,8 +26,13 @@ same-length c = search needs
 returns : tie.Need-returns
 unfolding refusalLine
 returns c =
-    let room : 14 ≤ length (c .before .before .before .before .before .before .before .before .before .before .before .before .before .before .args .text .now) = c .before .before .before .before .before .before .before .before .before .before .before .before .before .before .pre in
-    put-more (omega arith) (put-more (omega arith) (c .before .before .before .before .before .before .before .before .before .before .put-word .ensures) (c .before .before .before .before .before .before .put-number .ensures)) (c .before .before .put-end .ensures)
+    let room : 14 ≤ length (c .before .before .before .before .before .before .before .before .before .before .before .before .before
+    .before .args .text .now) =
+    c .before .before .before .before .before .before .before .before .before .before .before .before .before .before .pre in
+    put-more (omega arith)
+    (put-more (omega arith) (c .before .before .before .before .before .before .before .before .before .before .put-word .ensures)
+    (c .before .before .before .before .before .before .put-number .ensures))
+    (c .before .before .put-end .ensures)
 
 pub put-refusal-spec : {M : Type 1} → statement M
 put-refusal-spec =

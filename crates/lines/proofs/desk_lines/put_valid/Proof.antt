@@ -26,8 +26,16 @@ same-length c = search needs
 returns : tie.Need-returns
 unfolding validText
 returns c =
-    let room : c .before .before .before .before .before .before .before .before .before .before .before .before .before .before .args .at + 25 ≤ length (c .before .before .before .before .before .before .before .before .before .before .before .before .before .before .args .text .now) = c .before .before .before .before .before .before .before .before .before .before .before .before .before .before .pre in
-    put-looser (omega arith) (put-more (omega arith) (put-more (omega arith) (c .before .before .before .before .before .before .before .before .before .before .put-word .ensures) (c .before .before .before .before .before .before .put-number .ensures)) (c .before .before .put-number2 .ensures))
+    let room :
+    c .before .before .before .before .before .before .before .before .before .before .before .before .before .before .args .at + 25
+    ≤ length (c .before .before .before .before .before .before .before .before .before .before .before .before .before .before
+    .args .text .now) =
+    c .before .before .before .before .before .before .before .before .before .before .before .before .before .before .pre in
+    put-looser (omega arith)
+    (put-more (omega arith)
+    (put-more (omega arith) (c .before .before .before .before .before .before .before .before .before .before .put-word .ensures)
+    (c .before .before .before .before .before .before .put-number .ensures))
+    (c .before .before .put-number2 .ensures))
 
 pub put-valid-spec : {M : Type 1} → statement M
 put-valid-spec =

@@ -6,6 +6,7 @@ use lib.ListN.{length}
 use native.Mathlib.Omega.{arith}
 use Rattle.format.specs.Sheet.{pointCount}
 use Rattle.plate_reader.specs.PlateQuestions.{insideCount, outsidePairs}
+use Rattle.lines.specs.Rooms.{firstLineRoom}
 use Rattle.lines.specs.Listing.{columnsUsed, firstLine}
 use Rattle.lines.specs.Writing.{put-more}
 use Rattle.lines.proofs.plate_lines.put_first_line.Statement.{statement}
@@ -53,18 +54,36 @@ same-length c = search needs
 returns : tie.Need-returns
 unfolding firstLine
 returns c =
-    let p = c .before .before .before .before .before .before .before .before .before .before .before .before .before .before .before .before .before .before .before .before .before .before .before .before .before .before .before .args .plate .now in
-    let room : 24 ≤ length (c .before .before .before .before .before .before .before .before .before .before .before .before .before .before .before .before .before .before .before .before .before .before .before .before .before .before .before .args .text .now) = c .before .before .before .before .before .before .before .before .before .before .before .before .before .before .before .before .before .before .before .before .before .before .before .before .before .before .before .pre in
-    let points : c .before .before .before .before .before .before .before .before .before .before .before .before .before .before .before .before .before .before .point-count .result ≡ pointCount p = c .before .before .before .before .before .before .before .before .before .before .before .before .before .before .before .before .before .before .point-count .ensures in
-    let inside : c .before .before .before .before .before .before .before .before .before .before .before .before .before .inside-count .result ≡ insideCount p = c .before .before .before .before .before .before .before .before .before .before .before .before .before .inside-count .ensures in
-    let columns : c .before .before .before .before .before .before .before .columns-used .result ≡ columnsUsed (outsidePairs p) = c .before .before .before .before .before .before .before .columns-used .ensures ∙ ap columnsUsed (c .before .before .before .before .before .before .before .before .outside-pairs .ensures) in
+    let p = c .before .before .before .before .before .before .before .before .before .before .before .before .before .before .before
+    .before .before .before .before .before .before .before .before .before .before .before .before .args .plate .now in
+    let room : firstLineRoom
+    ≤ length (c .before .before .before .before .before .before .before .before .before .before .before .before .before .before .before
+    .before .before .before .before .before .before .before .before .before .before .before .before .args .text .now) =
+    c .before .before .before .before .before .before .before .before .before .before .before .before .before .before .before .before
+    .before .before .before .before .before .before .before .before .before .before .before .pre in
+    let points : c .before .before .before .before .before .before .before .before .before .before .before .before .before .before .before
+    .before .before .before .point-count .result
+    ≡ pointCount p =
+    c .before .before .before .before .before .before .before .before .before .before .before .before .before .before .before .before
+    .before .before .point-count .ensures in
+    let inside :
+    c .before .before .before .before .before .before .before .before .before .before .before .before .before .inside-count .result
+    ≡ insideCount p =
+    c .before .before .before .before .before .before .before .before .before .before .before .before .before .inside-count .ensures in
+    let columns : c .before .before .before .before .before .before .before .columns-used .result ≡ columnsUsed (outsidePairs p) =
+    c .before .before .before .before .before .before .before .columns-used .ensures
+    ∙ ap columnsUsed (c .before .before .before .before .before .before .before .before .outside-pairs .ensures) in
     put-more (omega arith)
     (put-more (omega arith)
     (put-more (omega arith)
     (put-more (omega arith)
-    (c .before .before .before .before .before .before .before .before .before .before .before .before .before .before .before .before .before .before .before .before .before .before .put-word .ensures)
-    (rw points at (c .before .before .before .before .before .before .before .before .before .before .before .before .before .before .before .before .before .put-number .ensures)))
-    (rw inside at (c .before .before .before .before .before .before .before .before .before .before .before .before .put-number2 .ensures)))
+    (c .before .before .before .before .before .before .before .before .before .before .before .before .before .before .before .before
+    .before .before .before .before .before .before .put-word .ensures)
+    (rw points
+    at (c .before .before .before .before .before .before .before .before .before .before .before .before .before .before .before .before
+    .before .put-number .ensures)))
+    (rw inside
+    at (c .before .before .before .before .before .before .before .before .before .before .before .before .put-number2 .ensures)))
     (rw columns at (c .before .before .before .before .before .before .put-number3 .ensures)))
     (c .before .before .put-end .ensures)
 

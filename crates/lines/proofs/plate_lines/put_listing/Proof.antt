@@ -3,6 +3,7 @@ use borrow.Author.Needs.{needs}
 use Prim.Native.Nat.{_≤_}
 use lib.ListN.{length}
 use native.Mathlib.Omega.{arith}
+use Rattle.lines.specs.Rooms.{listingRoom, mostPoints}
 use Rattle.lines.specs.Listing.{listingOf}
 use Rattle.lines.specs.Writing.{put-more}
 use Rattle.lines.proofs.plate_lines.put_listing.Statement.{statement}
@@ -20,8 +21,18 @@ same-length c = search needs
 returns : tie.Need-returns
 unfolding listingOf
 returns c =
-    let room : 4104 ≤ length (c .before .before .before .before .before .before .before .before .before .before .args .text .now) = c .before .before .before .before .before .before .before .before .before .before .pre in
-    (put-more (omega arith) (c .before .before .before .before .before .before .put-first-line .ensures) (c .before .before .put-points .ensures .0), omega (arith, c .before .before .before .before .before .before .put-first-line .ensures .fits, c .before .before .before .before .before .before .put-first-line .ensures .next-is, c .before .before .put-points .ensures .1))
+    let room :
+    listingRoom mostPoints ≤ length (c .before .before .before .before .before .before .before .before .before .before .args .text .now) =
+    c .before .before .before .before .before .before .before .before .before .before .pre in (
+      put-more (omega arith) (c .before .before .before .before .before .before .put-first-line .ensures)
+          (c .before .before .put-points .ensures .0),
+      omega (
+        arith,
+        c .before .before .before .before .before .before .put-first-line .ensures .fits,
+        c .before .before .before .before .before .before .put-first-line .ensures .next-is,
+        c .before .before .put-points .ensures .1,
+      ),
+    )
 
 pub put-listing-spec : {M : Type 1} → statement M
 put-listing-spec =

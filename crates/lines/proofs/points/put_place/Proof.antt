@@ -22,7 +22,8 @@ same-length c = search needs
 returns : tie.Need-returns
 returns c =
     let a = c .before .before .before .before .before .before .before .before .before .args in
-    place-in (held (a .inside .now) (a .position)) (marginOf (a .position) (a .pairs .now)) (c .before .before .before .before .before .if1 .taken) (c .before .before .put-word .ensures)
+    place-in (held (a .inside .now) (a .position)) (marginOf (a .position) (a .pairs .now))
+    (c .before .before .before .before .before .if1 .taken) (c .before .before .put-word .ensures)
 
 slice-aggregate-put-word-2 : tie.Need-slice-aggregate-put-word-2
 slice-aggregate-put-word-2 c = search needs
@@ -45,8 +46,12 @@ same-length-2 c = search needs
 returns-2 : tie.Need-returns-2
 returns-2 c =
     let a = c .before .before .before .before .before .before .before .before .before .before .before .before .before .before .args in
-    let margin : c .before .before .before .margin-of .result ≡ marginOf (a .position) (a .pairs .now) = c .before .before .before .margin-of .ensures in
-    place-out (held (a .inside .now) (a .position)) (marginOf (a .position) (a .pairs .now)) (c .before .before .before .before .before .before .before .before .before .before .if1 .left) (c .before .before .before .before .before .before .before .before .before .before .before .before .before .before .pre) (c .before .before .before .before .before .before .before .put-word2 .ensures) (rw margin at (c .before .before .put-number .ensures))
+    let margin : c .before .before .before .margin-of .result ≡ marginOf (a .position) (a .pairs .now) =
+    c .before .before .before .margin-of .ensures in
+    place-out (held (a .inside .now) (a .position)) (marginOf (a .position) (a .pairs .now))
+    (c .before .before .before .before .before .before .before .before .before .before .if1 .left)
+    (c .before .before .before .before .before .before .before .before .before .before .before .before .before .before .pre)
+    (c .before .before .before .before .before .before .before .put-word2 .ensures) (rw margin at (c .before .before .put-number .ensures))
 
 pub put-place-spec : {M : Type 1} → statement M
 put-place-spec =

@@ -4,10 +4,11 @@ use mathlib.Core.Path.{_≡_}
 use Prim.Native.Nat.{_+_, _≤_}
 use lib.ListN.{length}
 use native.Mathlib.Omega.{arith}
-use Rattle.labeling.specs.Margin.{among}
+use Rattle.labeling.specs.Points.{among}
 use Rattle.format.specs.Sheet.{callNumber}
 use Rattle.plate_reader.specs.PlateQuestions.{insideList}
 use Rattle.clash.specs.ChoiceFlags.{held, flags-hold}
+use Rattle.lines.specs.Rooms.{pointRoom}
 use Rattle.lines.specs.Listing.{pointLine}
 use Rattle.lines.specs.Writing.{put-more}
 use Rattle.lines.proofs.points.put_point.Statement.{statement}
@@ -31,12 +32,30 @@ same-length c = search needs
 returns : tie.Need-returns
 unfolding pointLine
 returns c =
-    let a = c .before .before .before .before .before .before .before .before .before .before .before .before .before .before .before .before .args in
+    let a = c .before .before .before .before .before .before .before .before .before .before .before .before .before .before .before
+    .before .args in
     let p = a .plate .now in
-    let room : a .at + 16 ≤ length (a .text .now) = c .before .before .before .before .before .before .before .before .before .before .before .before .before .before .before .before .pre .0 in
-    let call : c .before .before .before .before .before .before .before .before .before .before .before .call-number .result ≡ callNumber p (a .position) = c .before .before .before .before .before .before .before .before .before .before .before .call-number .ensures in
-    let inside : held (a .inside .now) (a .position) ≡ among (a .position) (insideList p) = flags-hold (a .inside .now) (insideList p) (c .before .before .before .before .before .before .before .before .before .before .before .before .before .before .before .before .pre .1) (a .position) (c .before .before .before .before .before .before .before .before .before .before .before .before .before .before .before .before .fits .position .fits) in
-    put-more (omega arith) (put-more (omega arith) (rw call at (c .before .before .before .before .before .before .before .before .before .before .put-decimal .ensures)) (rw (inside, c .before .before .before .before .before .before .before .before .before .before .before .before .before .before .before .before .pre .2) at (c .before .before .before .before .before .before .put-place .ensures))) (c .before .before .put-end .ensures)
+    let room : a .at + pointRoom ≤ length (a .text .now) =
+    c .before .before .before .before .before .before .before .before .before .before .before .before .before .before .before .before
+    .pre .0 in
+    let call : c .before .before .before .before .before .before .before .before .before .before .before .call-number .result
+    ≡ callNumber p (a .position) =
+    c .before .before .before .before .before .before .before .before .before .before .before .call-number .ensures in
+    let inside : held (a .inside .now) (a .position) ≡ among (a .position) (insideList p) =
+    flags-hold (a .inside .now) (insideList p)
+    (c .before .before .before .before .before .before .before .before .before .before .before .before .before .before .before .before
+    .pre .1 .0)
+    (a .position) (c .before .before .before .before .before .before .before .before .before .before .before .before .before .before .before
+    .before .fits .position .fits) in
+    put-more (omega arith)
+    (put-more (omega arith)
+    (rw call at (c .before .before .before .before .before .before .before .before .before .before .put-decimal .ensures))
+    (rw (
+      inside,
+      c .before .before .before .before .before .before .before .before .before .before .before .before .before .before .before .before .pre
+          .1 .1,
+    ) at (c .before .before .before .before .before .before .put-place .ensures)))
+    (c .before .before .put-end .ensures)
 
 pub put-point-spec : {M : Type 1} → statement M
 put-point-spec =

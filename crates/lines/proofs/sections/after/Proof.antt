@@ -35,7 +35,8 @@ part-result-end-2 c = search needs
 returns-2 : tie.Need-returns-2
 returns-2 c =
     let a = c .before .before .args in
-    take-all (length (a .bytes .now) - a .start) (drop (a .start) (a .bytes .now)) (rw (length-drop (a .start) (a .bytes .now)) (omega arith))
+    take-all (length (a .bytes .now) - a .start) (drop (a .start) (a .bytes .now))
+    (rw (length-drop (a .start) (a .bytes .now)) (omega arith))
 
 pub after-spec : {M : Type 1} → statement M
 after-spec =

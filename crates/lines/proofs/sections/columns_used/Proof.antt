@@ -39,11 +39,17 @@ loop-less c = search needs
 loop-again : tie.Need-loop-again Inv-loop μ-loop
 loop-again c =
     let p = c .before .before .before .before .before .args .pairs .now in
-    let e : c .columns-with .result ≡ max (c .before .before .before .loop .used) (getD p (c .before .before .before .loop .at + 1) 0 + 1) = c .columns-with .ensures in
-    (search needs, rw e (columns-more p (c .before .before .before .loop .at) (c .before .before .before .loop .used) (c .before .before .before .loop .inv .1) (c .before .before .loop-test .taken)))
+    let e : c .columns-with .result ≡ max (c .before .before .before .loop .used) (getD p (c .before .before .before .loop .at + 1) 0 + 1) =
+    c .columns-with .ensures in (
+      search needs,
+      rw e (columns-more p (c .before .before .before .loop .at) (c .before .before .before .loop .used)
+          (c .before .before .before .loop .inv .1) (c .before .before .loop-test .taken)),
+    )
 
 returns : tie.Need-returns Inv-loop μ-loop
-returns c = columns-end (c .before .before .before .args .pairs .now) (c .before .loop .at) (c .before .loop .used) (c .before .loop .inv .1) (c .loop-test .left)
+returns c =
+    columns-end (c .before .before .before .args .pairs .now) (c .before .loop .at)
+    (c .before .loop .used) (c .before .loop .inv .1) (c .loop-test .left)
 
 pub columns-used-spec : {M : Type 1} → statement M
 columns-used-spec =

@@ -30,7 +30,8 @@ returns : tie.Need-returns
 unfolding insideList
 returns c =
     let p = c .before .before .before .before .before .args .plate .now in
-    let start : c .before .before .before .sheet-length .result + 1 ≡ insideStart p = omega (arith, c .before .before .before .sheet-length .ensures) in
+    let start : c .before .before .before .sheet-length .result + 1 ≡ insideStart p =
+    omega (arith, c .before .before .before .sheet-length .ensures) in
     c .first .ensures ∙ ap₂ take (c .before .inside-count .ensures) (c .before .before .after .ensures ∙ ap (λ k. drop k p) start)
 
 pub inside-positions-spec : {M : Type 1} → statement M

@@ -32,7 +32,9 @@ shared-slice-read-result c = search needs
 returns : tie.Need-returns Inv-loop μ-loop
 returns c =
     let a = c .before .before .before .before .before .args in
-    sym (c .before .before .before .before .loop .inv .1 ∙ margin-found (a .position) (a .pairs .now) (c .before .before .before .before .loop .at) (c .before .before .before .loop-test .taken) (c .before .if1 .taken))
+    sym (c .before .before .before .before .loop .inv .1
+    ∙ margin-found (a .position) (a .pairs .now) (c .before .before .before .before .loop .at)
+    (c .before .before .before .loop-test .taken) (c .before .if1 .taken))
 
 add-at : tie.Need-add-at Inv-loop μ-loop
 add-at c = search needs
@@ -42,8 +44,12 @@ loop-less c = search needs
 
 loop-again : tie.Need-loop-again Inv-loop μ-loop
 loop-again c =
-    let a = c .before .before .before .before .args in
-    (search needs, c .before .before .before .loop .inv .1 ∙ margin-more (a .position) (a .pairs .now) (c .before .before .before .loop .at) (c .before .before .loop-test .taken) (c .if1 .left))
+    let a = c .before .before .before .before .args in (
+      search needs,
+      c .before .before .before .loop .inv .1
+          ∙ margin-more (a .position) (a .pairs .now) (c .before .before .before .loop .at)
+          (c .before .before .loop-test .taken) (c .if1 .left),
+    )
 
 returns-2 : tie.Need-returns-2 Inv-loop μ-loop
 returns-2 c =

@@ -30,7 +30,8 @@ returns : tie.Need-returns
 unfolding outsidePairs
 returns c =
     let p = c .before .before .before .before .args .plate .now in
-    let start : c .before .before .sheet-length .result + 2 + c .before .inside-count .result ≡ outsideStart p + 1 = omega (arith, c .before .before .sheet-length .ensures, c .before .inside-count .ensures) in
+    let start : c .before .before .sheet-length .result + 2 + c .before .inside-count .result ≡ outsideStart p + 1 =
+    omega (arith, c .before .before .sheet-length .ensures, c .before .inside-count .ensures) in
     c .after .ensures ∙ ap (λ k. drop k p) start
 
 pub outside-pairs-spec : {M : Type 1} → statement M

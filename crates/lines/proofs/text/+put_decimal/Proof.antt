@@ -39,19 +39,33 @@ put-decimal-same-length : (t : ℕ) → put-decimal-lts.Need-same-length (put-de
 put-decimal-same-length t c = search needs
 
 put-decimal-returns : (t : ℕ) → put-decimal-lts.Need-returns (put-decimal-calls t) (put-decimal-at t) put-decimal.Post
-put-decimal-returns t c = rw (decimal-small (c .before .before .before .before .before .before .args .number) (omega (arith, c .before .before .before .before .if1 .taken))) (put-looser (omega arith) (c .before .before .put-digit .ensures))
+put-decimal-returns t c =
+    rw (decimal-small (c .before .before .before .before .before .before .args .number)
+    (omega (arith, c .before .before .before .before .if1 .taken)))
+    (put-looser (omega arith) (c .before .before .put-digit .ensures))
 
-put-decimal-put-decimal-requires : (t : ℕ) → put-decimal-lts.Need-put-decimal-requires (put-decimal-calls t) (put-decimal-at t) put-decimal.Post
+put-decimal-put-decimal-requires : (t : ℕ)
+    → put-decimal-lts.Need-put-decimal-requires (put-decimal-calls t) (put-decimal-at t) put-decimal.Post
 put-decimal-put-decimal-requires t c κs =
     let a = c .before .before .before .args in
     let great : 10 ≤ a .number = omega (arith, c .before .if1 .left) in
     (omega (arith, c .before .before .before .pre .0), c .before .before .before .pre .1)
 
-put-decimal-put-digit-requires-2 : (t : ℕ) → put-decimal-lts.Need-put-digit-requires-2 (put-decimal-calls t) (put-decimal-at t) put-decimal.Post
+put-decimal-put-digit-requires-2 : (t : ℕ)
+    → put-decimal-lts.Need-put-digit-requires-2 (put-decimal-calls t) (put-decimal-at t) put-decimal.Post
 put-decimal-put-digit-requires-2 t c κs =
     let a = c .before .before .before .before .before .before .before .args in
-    let great : 10 ≤ a .number = omega (arith, c .before .before .before .before .before .if1 .left) in
-    (omega arith, omega (arith, one-longer (a .number) great, decimal-length (a .number) (c .before .before .before .before .before .before .before .fits .number .fits), c .before .before .before .before .before .before .before .pre .1, c .before .before .before .put-decimal .ensures .next-is, c .before .before .before .put-decimal .kept .0))
+    let great : 10 ≤ a .number = omega (arith, c .before .before .before .before .before .if1 .left) in (
+      omega arith,
+      omega (
+        arith,
+        one-longer (a .number) great,
+        decimal-length (a .number) (c .before .before .before .before .before .before .before .fits .number .fits),
+        c .before .before .before .before .before .before .before .pre .1,
+        c .before .before .before .put-decimal .ensures .next-is,
+        c .before .before .before .put-decimal .kept .0,
+      ),
+    )
 
 put-decimal-same-length-2 : (t : ℕ) → put-decimal-lts.Need-same-length-2 (put-decimal-calls t) (put-decimal-at t) put-decimal.Post
 put-decimal-same-length-2 t c = search needs
@@ -59,7 +73,10 @@ put-decimal-same-length-2 t c = search needs
 put-decimal-returns-2 : (t : ℕ) → put-decimal-lts.Need-returns-2 (put-decimal-calls t) (put-decimal-at t) put-decimal.Post
 put-decimal-returns-2 t c =
     let a = c .before .before .before .before .before .before .before .before .before .before .args in
-    put-longer (a .number) (c .before .before .before .before .before .before .before .before .before .before .fits .number .fits) (omega (arith, c .before .before .before .before .before .before .before .before .if1 .left)) (c .before .before .before .before .before .before .before .before .before .before .pre .1) (c .before .before .before .before .before .before .put-decimal .ensures) (c .before .before .put-digit2 .ensures)
+    put-longer (a .number) (c .before .before .before .before .before .before .before .before .before .before .fits .number .fits)
+    (omega (arith, c .before .before .before .before .before .before .before .before .if1 .left))
+    (c .before .before .before .before .before .before .before .before .before .before .pre .1)
+    (c .before .before .before .before .before .before .put-decimal .ensures) (c .before .before .put-digit2 .ensures)
 
 pub +put-decimal-spec : {M : Type 1} → statement M
 +put-decimal-spec =

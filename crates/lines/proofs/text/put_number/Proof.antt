@@ -20,7 +20,9 @@ same-length c = search needs
 
 returns : tie.Need-returns
 unfolding spaced
-returns c = put-more (omega (arith, c .before .before .before .before .before .before .before .before .before .before .pre)) (c .before .before .before .before .before .before .put-word .ensures) (c .before .before .put-decimal .ensures)
+returns c =
+    put-more (omega (arith, c .before .before .before .before .before .before .before .before .before .before .pre))
+    (c .before .before .before .before .before .before .put-word .ensures) (c .before .before .put-decimal .ensures)
 
 pub put-number-spec : {M : Type 1} → statement M
 put-number-spec =

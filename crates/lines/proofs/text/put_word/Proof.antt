@@ -18,7 +18,13 @@ same-length c = search needs
 returns : tie.Need-returns
 returns c =
     let a = c .before .before .before .before .before .before .args in
-    record { fits = le-refl _; next-is = refl; text-is = c .before .before .copy-to .ensures ∙ written-fits (a .text .now) (a .at) (a .word .now) (c .before .before .before .before .before .before .pre) }
+    record {
+      fits = le-refl _;
+      next-is = refl;
+      text-is =
+          c .before .before .copy-to .ensures
+          ∙ written-fits (a .text .now) (a .at) (a .word .now) (c .before .before .before .before .before .before .pre);
+    }
 
 pub put-word-spec : {M : Type 1} → statement M
 put-word-spec = tie.close (tie.spec copy-to-requires add-result same-length returns)
