@@ -23,7 +23,7 @@ static void print_bytes(const char *name, const uint8_t *bytes, size_t count)
 }
 
 /* Marks a list, prints the answer, and hands the new desk back. */
-static struct desk_state mark(struct desk_state desk, const uint8_t *list, size_t list_len)
+static struct desk mark(struct desk desk, const uint8_t *list, size_t list_len)
 {
     struct desk_mark_result marked = desk_mark(desk, list, list_len);
     if (marked.number != 0)
@@ -63,7 +63,7 @@ int main(void)
     fwrite(text, 1, plate_listing(output, made.written, text, sizeof text), stdout);
 
     static const uint8_t best[] = {2, 1, 2}, first[] = {1, 0}, none[] = {0};
-    struct desk_state desk = desk_new();
+    struct desk desk = desk_new();
     desk = mark(desk, best, sizeof best);
     struct desk_load_result loaded =
         desk_load(desk, P1, sizeof P1, workspace, PLATE_WORKSPACE);

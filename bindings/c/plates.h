@@ -18,8 +18,8 @@
    question answered no ends a call. A refused call writes nothing.
 
    Structs. They go by value as the x86-64 C ABI has it. They have no padding: a
-   field `spare` stands where it would be, and is 0 in all that is returned, so
-   results can be compared byte by byte.
+   field `spare` stands where it would be. It is 0 in every result, in a desk if
+   calls from desk_new on handed it back, so results can be compared byte by byte.
 
    The library keeps nothing between calls, and calls may run at the same time. */
 #ifndef PLATES_H
@@ -38,6 +38,9 @@ extern "C" {
 
 /* The library's counts have 64 bits. */
 PLATES_SAME(sizeof(size_t), 8);
+
+/* The most bytes of a sheet: 10 + 6n with n = 32 points. */
+#define PLATE_SHEET 202
 
 /* How many 16-bit numbers of workspace a making or a load asks for. */
 #define PLATE_WORKSPACE 32768
@@ -100,39 +103,48 @@ size_t plate_listing(const uint8_t *plate, size_t plate_len,
 
    The fields may be read. With a desk that no calls from desk_new on handed back
    a call still ends, but nothing is promised of its best and its numbers. */
-struct desk_state {
-    uint8_t sheet[202]; /* the loaded sheet, then zeros; zeros if none is loaded */
-    bool loaded;        /* whether a sheet is loaded; its byte is 0 or 1, and a
-                           desk with any other must not be handed to a call */
-    uint8_t spare;      /* 0, and ignored in a desk that is handed to a call */
-    uint16_t best;      /* the best count of the loaded sheet, else 0 */
-    uint16_t last;      /* the number of the list marked last, 0 before the first */
+
+/* What a load puts into the desk. */
+struct desk_held {
+    uint8_t sheet[PLATE_SHEET]; /* the loaded sheet, then zeros; zeros if none is
+                                   loaded */
+    bool loaded;                /* whether a sheet is loaded; its byte is 0 or 1,
+                                   and a desk with any other must not be handed to
+                                   a call */
+    uint8_t spare;              /* 0; no call asks for it, and it goes along until
+                                   a load puts 0 there */
+    uint16_t best;              /* the best count of the loaded sheet, else 0 */
 };
-PLATES_SAME(sizeof(struct desk_state), 202 + 1 + 1 + 2 + 2);
-struct desk_state desk_new(void);
+PLATES_SAME(sizeof(struct desk_held), PLATE_SHEET + 1 + 1 + 2);
+struct desk {
+    struct desk_held held;
+    uint16_t last; /* the number of the list marked last, 0 before the first */
+};
+PLATES_SAME(sizeof(struct desk), sizeof(struct desk_held) + 2);
+struct desk desk_new(void);
 
 /* A load. The number is that of the first no (11 to 20, 22), 0 if the sheet is
    loaded; then the whole workspace is zero. */
 struct desk_load_result {
-    struct desk_state desk;
+    struct desk desk;
     uint32_t number;
 };
-PLATES_SAME(sizeof(struct desk_load_result), 208 + 4);
-struct desk_load_result desk_load(struct desk_state desk,
+PLATES_SAME(sizeof(struct desk_load_result), sizeof(struct desk) + 4);
+struct desk_load_result desk_load(struct desk desk,
                                   const uint8_t *sheet, size_t sheet_len,
                                   uint16_t *workspace, size_t workspace_len);
 
 /* The verdicts of a mark. */
 #define DESK_VALID 1
-#define DESK_CLASH_LABELS 2 /* two labels met */
-#define DESK_CLASH_LEADER 3 /* a label met a leader */
+#define DESK_CLASH_LABELS 2           /* two labels met */
+#define DESK_CLASH_LABEL_AND_LEADER 3 /* a label met a leader */
 
 /* A mark. The number is that of the first no (51, 31 to 33, 52), 0 if the list
    is marked. Then list_number is the list's number; a valid list has its count
    and shortfall set, a clash its first and second position. Every other field
    is 0; on a refusal all but the desk and the number are 0. */
 struct desk_mark_result {
-    struct desk_state desk;
+    struct desk desk;
     uint32_t number;
     uint32_t list_number;
     uint32_t verdict;
@@ -141,8 +153,8 @@ struct desk_mark_result {
     uint32_t first;
     uint32_t second;
 };
-PLATES_SAME(sizeof(struct desk_mark_result), 208 + 7 * 4);
-struct desk_mark_result desk_mark(struct desk_state desk,
+PLATES_SAME(sizeof(struct desk_mark_result), sizeof(struct desk) + 7 * 4);
+struct desk_mark_result desk_mark(struct desk desk,
                                   const uint8_t *list, size_t list_len);
 
 #undef PLATES_SAME

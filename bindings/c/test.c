@@ -52,7 +52,7 @@ static bool same(const void *a, const void *b, size_t count)
     return memcmp(a, b, count) == 0;
 }
 
-static struct desk_state loaded_desk(void)
+static struct desk loaded_desk(void)
 {
     struct desk_load_result loaded =
         desk_load(desk_new(), P1, sizeof P1, workspace, PLATE_WORKSPACE);
@@ -63,7 +63,7 @@ static struct desk_state loaded_desk(void)
 static void null_with_count_0(void)
 {
     uint8_t output[36];
-    struct desk_state fresh = desk_new(), desk = loaded_desk();
+    struct desk fresh = desk_new(), desk = loaded_desk();
     CHECK(plate_check_sheet(NULL, 0) == 11);
     CHECK(plate_make(NULL, 0, NULL, 0, NULL, 0).number == 11);
     CHECK(plate_make(P1, sizeof P1, NULL, 0, workspace, PLATE_WORKSPACE).number == 21);
@@ -137,14 +137,14 @@ static void listing_of_no_plate(void)
 
 static void bytes_of_a_desk(void)
 {
-    struct desk_state expected = {0};
+    struct desk expected = {0};
     fill_stack();
-    struct desk_state desk = desk_new();
+    struct desk desk = desk_new();
     CHECK(same(&desk, &expected, sizeof desk));
 
-    memcpy(expected.sheet, P1, sizeof P1);
-    expected.loaded = true;
-    expected.best = 2;
+    memcpy(expected.held.sheet, P1, sizeof P1);
+    expected.held.loaded = true;
+    expected.held.best = 2;
     fill_stack();
     desk = loaded_desk();
     CHECK(same(&desk, &expected, sizeof desk));
@@ -169,17 +169,22 @@ static void bytes_of_a_desk(void)
     CHECK(same(&loaded, &too_short, sizeof loaded));
 }
 
-static void a_spare_byte_is_ignored(void)
+/* A spare byte that isn't 0 goes along, and changes no answer; a load puts 0
+   there. */
+static void a_spare_byte_goes_along(void)
 {
     static const uint8_t best[] = {2, 1, 2};
-    struct desk_state desk = loaded_desk();
+    struct desk desk = loaded_desk(), spare = desk;
+    spare.held.spare = 0xff;
     struct desk_mark_result marked = desk_mark(desk, best, sizeof best);
-    desk.spare = 0xff;
-    struct desk_mark_result again = desk_mark(desk, best, sizeof best);
-    CHECK(again.list_number == 1 && again.desk.spare == 0);
+    struct desk_mark_result again = desk_mark(spare, best, sizeof best);
+    CHECK(again.desk.held.spare == 0xff);
+    again.desk.held.spare = 0;
     CHECK(same(&again, &marked, sizeof again));
-    struct desk_load_result refused = desk_load(desk, NULL, 0, NULL, 0);
-    CHECK(refused.number == 11 && refused.desk.spare == 0);
+    struct desk_load_result loaded = desk_load(spare, NULL, 0, NULL, 0);
+    CHECK(loaded.number == 11 && same(&loaded.desk, &spare, sizeof spare));
+    loaded = desk_load(spare, P1, sizeof P1, workspace, PLATE_WORKSPACE);
+    CHECK(loaded.number == 0 && same(&loaded.desk, &desk, sizeof desk));
 }
 
 int main(void)
@@ -190,6 +195,6 @@ int main(void)
     buffer_of_a_listing();
     listing_of_no_plate();
     bytes_of_a_desk();
-    a_spare_byte_is_ignored();
+    a_spare_byte_goes_along();
     return failures != 0;
 }

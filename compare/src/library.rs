@@ -76,7 +76,7 @@ fn marked(marked: plates::Marked) -> Marked {
             second: second.into(),
             kind: match kind {
                 plates::ClashKind::Labels => ClashKind::Labels,
-                plates::ClashKind::Leader => ClashKind::Leader,
+                plates::ClashKind::LabelAndLeader => ClashKind::LabelAndLeader,
             },
         },
     };

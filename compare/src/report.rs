@@ -122,7 +122,7 @@ fn verdict_name(verdict: Verdict) -> &'static str {
             ..
         } => VERDICTS[2],
         Verdict::Clash {
-            kind: ClashKind::Leader,
+            kind: ClashKind::LabelAndLeader,
             ..
         } => VERDICTS[3],
     }

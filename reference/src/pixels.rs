@@ -21,7 +21,7 @@ pub enum ClashKind {
     /// Two labels on the map.
     Labels,
     /// A label on the map and a leader.
-    Leader,
+    LabelAndLeader,
 }
 
 /// The runs of an inside point: its label.
@@ -121,7 +121,7 @@ pub fn first_clash(sheet: &Sheet, choice: Choice) -> Option<(usize, usize, Clash
                 let kind = if choice.contains(first) && choice.contains(second) {
                     ClashKind::Labels
                 } else {
-                    ClashKind::Leader
+                    ClashKind::LabelAndLeader
                 };
                 return Some((first, second, kind));
             }

@@ -90,7 +90,7 @@ pub fn mark_line(answer: Result<Marked, u8>) -> String {
         } => {
             let met = match kind {
                 ClashKind::Labels => "labels",
-                ClashKind::Leader => "leader",
+                ClashKind::LabelAndLeader => "leader",
             };
             format!("{number} clash {first} {second} {met}")
         }

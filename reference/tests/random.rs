@@ -68,7 +68,7 @@ fn clash_by_pixels(sheet: &Sheet, choice: Choice) -> Option<(usize, usize, Clash
                 let kind = match (choice.contains(first), choice.contains(second)) {
                     (true, true) => ClashKind::Labels,
                     (false, false) => panic!("two outside points share a pixel"),
-                    _ => ClashKind::Leader,
+                    _ => ClashKind::LabelAndLeader,
                 };
                 return Some((first, second, kind));
             }

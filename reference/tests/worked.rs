@@ -81,7 +81,7 @@ fn p2_only_the_third_inside() {
     // Taking points left to right would put the first inside; its label meets a leader.
     assert_eq!(
         first_clash(&sheet, Choice::of(&[0])),
-        Some((0, 1, ClashKind::Leader))
+        Some((0, 1, ClashKind::LabelAndLeader))
     );
 }
 
@@ -101,7 +101,7 @@ fn p4_the_second_alone() {
     );
     assert_eq!(
         first_clash(&sheet, Choice::of(&[0])),
-        Some((0, 1, ClashKind::Leader))
+        Some((0, 1, ClashKind::LabelAndLeader))
     );
 }
 
@@ -116,7 +116,7 @@ fn p6_a_leader_that_ends_in_the_label() {
     let sheet = sheet_of((4, 2), &[(4, 3), (4, 4)]);
     assert_eq!(
         first_clash(&sheet, Choice::of(&[0])),
-        Some((0, 1, ClashKind::Leader))
+        Some((0, 1, ClashKind::LabelAndLeader))
     );
 }
 
@@ -217,7 +217,7 @@ fn the_desk_on_p1() {
             verdict: Verdict::Clash {
                 first: 0,
                 second: 1,
-                kind: ClashKind::Leader
+                kind: ClashKind::LabelAndLeader
             }
         })
     );
@@ -274,7 +274,7 @@ fn the_smallest_pair_is_named() {
     let sheet = sheet_of((4, 3), &[(4, 5), (6, 3), (4, 4)]);
     assert_eq!(
         first_clash(&sheet, Choice::of(&[1, 2])),
-        Some((0, 2, ClashKind::Leader))
+        Some((0, 2, ClashKind::LabelAndLeader))
     );
     assert_eq!(
         first_clash(&sheet, Choice::of(&[0, 1, 2])),

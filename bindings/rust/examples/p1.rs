@@ -61,7 +61,7 @@ fn mark(desk: Desk, list: &[u8]) -> Desk {
         )) => {
             let met = match kind {
                 ClashKind::Labels => "labels",
-                ClashKind::Leader => "leader",
+                ClashKind::LabelAndLeader => "leader",
             };
             println!("{number} clash {first} {second} {met}");
         }

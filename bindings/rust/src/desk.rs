@@ -1,6 +1,6 @@
 //! The marking desk, and what a mark answers.
 
-use crate::{answer, ffi, promised, Refusal};
+use crate::{answer, ffi, promised, Refusal, SHEET};
 
 /// A marking desk: a sheet with its best count, and the last number given.
 ///
@@ -10,7 +10,7 @@ use crate::{answer, ffi, promised, Refusal};
 /// same bytes twice.
 #[derive(Debug, PartialEq, Eq)]
 pub struct Desk {
-    pub(crate) state: ffi::DeskState,
+    pub(crate) state: ffi::Desk,
 }
 
 /// The answer to a marked list.
@@ -50,7 +50,7 @@ pub enum ClashKind {
     /// Two labels on the map.
     Labels,
     /// A label on the map and a leader.
-    Leader,
+    LabelAndLeader,
 }
 
 impl Desk {
@@ -77,16 +77,18 @@ impl Desk {
 
     /// The bytes of the loaded sheet.
     pub fn sheet(&self) -> Option<&[u8]> {
-        if self.state.loaded == 0 {
+        let held = &self.state.held;
+        if held.loaded == 0 {
             return None;
         }
-        let sheet = self.state.sheet.get(..sheet_length(&self.state.sheet));
+        let sheet = held.sheet.get(..sheet_length(&held.sheet));
         Some(sheet.expect("the library's promise: a loaded sheet has at most 32 points"))
     }
 
     /// The best count of the loaded sheet.
     pub fn best(&self) -> Option<u16> {
-        (self.state.loaded == 1).then_some(self.state.best)
+        let held = &self.state.held;
+        (held.loaded == 1).then_some(held.best)
     }
 
     /// The number of the list marked last, 0 before the first.
@@ -103,9 +105,9 @@ impl Desk {
         Desk { state }
     }
 
-    fn of(state: ffi::DeskState) -> Desk {
-        promised(state.loaded <= 1, "loaded is a bool");
-        promised(state.spare == 0, "a desk's spare byte is 0");
+    fn of(state: ffi::Desk) -> Desk {
+        promised(state.held.loaded <= 1, "loaded is a bool");
+        promised(state.held.spare == 0, "a desk's spare byte is 0");
         Desk { state }
     }
 }
@@ -117,7 +119,7 @@ impl Default for Desk {
 }
 
 /// How many bytes a sheet with this start has.
-pub(crate) fn sheet_length(sheet: &[u8; 202]) -> usize {
+pub(crate) fn sheet_length(sheet: &[u8; SHEET]) -> usize {
     10 + 6 * usize::from(sheet[9])
 }
 
@@ -161,7 +163,7 @@ fn clash((first, second): (u32, u32), labels: bool) -> Verdict {
         second: position(second),
         kind: match labels {
             true => ClashKind::Labels,
-            false => ClashKind::Leader,
+            false => ClashKind::LabelAndLeader,
         },
     }
 }
@@ -173,17 +175,14 @@ fn short(number: u32) -> u16 {
 #[cfg(test)]
 mod tests {
     use super::{marked_list, Desk};
-    use crate::ffi::{desk_new, DeskMarkResult, DeskState};
+    use crate::ffi::{desk_new, DeskMarkResult};
     use std::panic::catch_unwind;
 
     #[test]
     fn a_broken_desk_panics() {
         let ends = |loaded, spare| {
-            let state = DeskState {
-                loaded,
-                spare,
-                ..desk_new()
-            };
+            let mut state = desk_new();
+            (state.held.loaded, state.held.spare) = (loaded, spare);
             catch_unwind(|| Desk::of(state)).is_ok()
         };
         assert!(ends(0, 0) && ends(1, 0));

@@ -11,6 +11,7 @@
 
 #![allow(unsafe_code)]
 
+use crate::SHEET;
 use std::mem::size_of;
 
 #[repr(C)]
@@ -30,25 +31,31 @@ pub struct ReadResult {
 
 #[repr(C)]
 #[derive(Clone, Debug, PartialEq, Eq)]
-pub struct DeskState {
-    pub sheet: [u8; 202],
+pub struct Held {
+    pub sheet: [u8; SHEET],
     /// A bool in C. As a number it can be looked at before it is believed. Only 0
     /// and 1 may be handed to the library.
     pub loaded: u8,
     pub spare: u8,
     pub best: u16,
+}
+
+#[repr(C)]
+#[derive(Clone, Debug, PartialEq, Eq)]
+pub struct Desk {
+    pub held: Held,
     pub last: u16,
 }
 
 #[repr(C)]
 pub struct DeskLoadResult {
-    pub desk: DeskState,
+    pub desk: Desk,
     pub number: u32,
 }
 
 #[repr(C)]
 pub struct DeskMarkResult {
-    pub desk: DeskState,
+    pub desk: Desk,
     pub number: u32,
     pub list_number: u32,
     pub verdict: u32,
@@ -61,12 +68,13 @@ pub struct DeskMarkResult {
 // The sums of the fields' sizes: no byte is padding.
 const _: () = assert!(size_of::<MakeResult>() == 4 + 4 + 8);
 const _: () = assert!(size_of::<ReadResult>() == 4 + 4 + 8 + 8);
-const _: () = assert!(size_of::<DeskState>() == 202 + 1 + 1 + 2 + 2);
-const _: () = assert!(size_of::<DeskLoadResult>() == 208 + 4);
-const _: () = assert!(size_of::<DeskMarkResult>() == 208 + 7 * 4);
+const _: () = assert!(size_of::<Held>() == SHEET + 1 + 1 + 2);
+const _: () = assert!(size_of::<Desk>() == size_of::<Held>() + 2);
+const _: () = assert!(size_of::<DeskLoadResult>() == size_of::<Desk>() + 4);
+const _: () = assert!(size_of::<DeskMarkResult>() == size_of::<Desk>() + 7 * 4);
 
 mod library {
-    use super::{DeskLoadResult, DeskMarkResult, DeskState, MakeResult, ReadResult};
+    use super::{Desk, DeskLoadResult, DeskMarkResult, MakeResult, ReadResult};
 
     #[link(name = "plate_export", kind = "static")]
     extern "C" {
@@ -86,15 +94,15 @@ mod library {
             text: *mut u8,
             text_len: usize,
         ) -> usize;
-        pub fn desk_new() -> DeskState;
+        pub fn desk_new() -> Desk;
         pub fn desk_load(
-            desk: DeskState,
+            desk: Desk,
             sheet: *const u8,
             sheet_len: usize,
             workspace: *mut u16,
             workspace_len: usize,
         ) -> DeskLoadResult;
-        pub fn desk_mark(desk: DeskState, list: *const u8, list_len: usize) -> DeskMarkResult;
+        pub fn desk_mark(desk: Desk, list: *const u8, list_len: usize) -> DeskMarkResult;
     }
 }
 
@@ -123,11 +131,11 @@ pub fn listing(plate: &[u8], text: &mut [u8]) -> usize {
     unsafe { library::plate_listing(plate.as_ptr(), plate.len(), text.as_mut_ptr(), text.len()) }
 }
 
-pub fn desk_new() -> DeskState {
+pub fn desk_new() -> Desk {
     unsafe { library::desk_new() }
 }
 
-pub fn desk_load(desk: DeskState, sheet: &[u8], workspace: &mut [u16]) -> DeskLoadResult {
+pub fn desk_load(desk: Desk, sheet: &[u8], workspace: &mut [u16]) -> DeskLoadResult {
     unsafe {
         library::desk_load(
             desk,
@@ -139,6 +147,6 @@ pub fn desk_load(desk: DeskState, sheet: &[u8], workspace: &mut [u16]) -> DeskLo
     }
 }
 
-pub fn desk_mark(desk: DeskState, list: &[u8]) -> DeskMarkResult {
+pub fn desk_mark(desk: Desk, list: &[u8]) -> DeskMarkResult {
     unsafe { library::desk_mark(desk, list.as_ptr(), list.len()) }
 }

@@ -13,6 +13,9 @@ pub use saved::{RestoreError, SAVED, SAVED_VERSION};
 
 use std::str::from_utf8;
 
+/// The most bytes of a sheet: 10 + 6n with n = 32 points.
+pub const SHEET: usize = 202;
+
 /// How many 16-bit numbers of workspace a making or a load asks for.
 pub const WORKSPACE: usize = 32_768;
 

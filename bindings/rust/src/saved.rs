@@ -1,7 +1,7 @@
 //! A desk as bytes.
 
 use crate::desk::sheet_length;
-use crate::{check_sheet, ffi, Desk, Refusal};
+use crate::{check_sheet, ffi, Desk, Refusal, SHEET};
 use std::error::Error;
 use std::fmt;
 
@@ -24,13 +24,13 @@ impl Desk {
     /// | 6 to 207 | the loaded sheet, then zeros; zeros if none is loaded |
     #[must_use]
     pub fn to_bytes(&self) -> [u8; SAVED] {
-        let state = &self.state;
+        let held = &self.state.held;
         let mut bytes = [0; SAVED];
         bytes[0] = SAVED_VERSION;
-        bytes[1] = state.loaded;
-        bytes[2..4].copy_from_slice(&state.best.to_le_bytes());
-        bytes[4..6].copy_from_slice(&state.last.to_le_bytes());
-        bytes[6..].copy_from_slice(&state.sheet);
+        bytes[1] = held.loaded;
+        bytes[2..4].copy_from_slice(&held.best.to_le_bytes());
+        bytes[4..6].copy_from_slice(&self.state.last.to_le_bytes());
+        bytes[6..].copy_from_slice(&held.sheet);
         bytes
     }
 
@@ -49,9 +49,9 @@ impl Desk {
             return Err(RestoreError::Version(bytes[0]));
         }
         let state = state_in(bytes);
-        match state.loaded {
+        match state.held.loaded {
             0 => no_sheet(&state)?,
-            1 => a_sheet(&state.sheet)?,
+            1 => a_sheet(&state.held.sheet)?,
             other => return Err(RestoreError::Loaded(other)),
         }
         if state.last > 9999 {
@@ -62,27 +62,30 @@ impl Desk {
 }
 
 /// The fields, as they stand in the bytes.
-fn state_in(bytes: &[u8; SAVED]) -> ffi::DeskState {
-    let mut sheet = [0; 202];
+fn state_in(bytes: &[u8; SAVED]) -> ffi::Desk {
+    let mut sheet = [0; SHEET];
     sheet.copy_from_slice(&bytes[6..]);
-    ffi::DeskState {
-        sheet,
-        loaded: bytes[1],
-        spare: 0,
-        best: u16::from_le_bytes([bytes[2], bytes[3]]),
+    ffi::Desk {
+        held: ffi::Held {
+            sheet,
+            loaded: bytes[1],
+            spare: 0,
+            best: u16::from_le_bytes([bytes[2], bytes[3]]),
+        },
         last: u16::from_le_bytes([bytes[4], bytes[5]]),
     }
 }
 
 /// A desk with no sheet has no byte of one, no best, and has marked no list.
-fn no_sheet(state: &ffi::DeskState) -> Result<(), RestoreError> {
-    let zero = state.sheet == [0; 202] && (state.best, state.last) == (0, 0);
+fn no_sheet(state: &ffi::Desk) -> Result<(), RestoreError> {
+    let held = &state.held;
+    let zero = held.sheet == [0; SHEET] && (held.best, state.last) == (0, 0);
     zero.then_some(()).ok_or(RestoreError::NoSheet)
 }
 
 /// A loaded sheet is accepted, and has zeros past it.
-fn a_sheet(sheet: &[u8; 202]) -> Result<(), RestoreError> {
-    let (sheet, past) = sheet.split_at(sheet_length(sheet).min(202));
+fn a_sheet(sheet: &[u8; SHEET]) -> Result<(), RestoreError> {
+    let (sheet, past) = sheet.split_at(sheet_length(sheet).min(SHEET));
     check_sheet(sheet).map_err(RestoreError::Sheet)?;
     let zero = past.iter().all(|&byte| byte == 0);
     zero.then_some(()).ok_or(RestoreError::PastSheet)

@@ -1,5 +1,5 @@
--- DEMAND 3 OF THE EXPORTED CALLS. Its theorem, in desk's DemandThree.antt, speaks of the desk after any calls and of the plates made. These
--- are what the exported calls hand back and write, so it is a theorem about them. Assumes nothing.
+-- DEMAND 3 OF THE EXPORTED CALLS. Its theorem, in desk's DemandThreeProof.antt, speaks of the desk after any calls and of the plates made.
+-- These are what the exported calls hand back and write, so it is a theorem about them. Assumes nothing.
 use mathlib.Core.Path.{_≡_, refl, sym, ap, _∙_}
 use mathlib.Core.Bool.{false}
 use mathlib.Core.List.{List}
@@ -9,41 +9,47 @@ use Rattle.format.specs.MakingQuestions.{makingNo, workspaceAfter}
 use Rattle.plate_maker.specs.Making.{makeOutcomeOf}
 use Rattle.plate_maker.specs.declared.MakeAnswer.the-variants.{Made}
 use Rattle.desk.specs.Desk.{fresh, loadOf, markOf}
+use Rattle.desk.specs.declared.Desk.{Desk}
 use Rattle.desk.specs.declared.MarkAnswer.{MarkAnswer}
 use Rattle.desk.specs.declared.MarkAnswer.the-variants.{Marked, Refused}
 use Rattle.desk.specs.declared.Verdict.the-variants.{Valid, Clash}
-use Rattle.desk.specs.DemandThree.{Call, load, mark, Calls, noCalls, _andThen_, deskAfter, PlateMade}
-use Rattle.plate_export.specs.declared.DeskState.{DeskState}
+use Rattle.desk.specs.Calls.{Call, load, mark, Calls, noCalls, _andThen_, deskAfter, PlateMade}
+use Rattle.desk.specs.DemandThreeProof.{spare-zero as desk-spare-zero}
 use Rattle.plate_export.specs.declared.MakeResult.{MakeResult}
 use Rattle.plate_export.specs.Exported.{MakingExported}
-use Rattle.plate_export.specs.ExportedDesk.{deskOf, stateOf, loadReply, answerReply, markReply}
+use Rattle.plate_export.specs.ExportedDesk.{loadReply, answerReply, markReply}
 
--- The struct that a call hands back: the terms of the contracts of desk_load and desk_mark.
-abbrev pub handedBack : DeskState → Call → DeskState
-handedBack d (load s w) = loadReply (loadOf (deskOf d) s w) .desk
-handedBack d (mark l) = markReply (markOf (deskOf d) l) .desk
+-- The desk that a call hands back: the terms of the contracts of desk_load and desk_mark.
+abbrev pub handedBack : Desk → Call → Desk
+handedBack d (load s w) = loadReply (loadOf d s w) .desk
+handedBack d (mark l) = markReply (markOf d l) .desk
 
--- The struct after these calls: desk_new's at first, and each call gets the one that the call before it handed back.
-unfoldable pub stateAfter : Calls → DeskState
-stateAfter noCalls = stateOf fresh
-stateAfter (calls andThen c) = handedBack (stateAfter calls) c
+-- The desk after these exported calls: desk_new's at first, and each call gets the one that the call before it handed back.
+unfoldable pub exportedAfter : Calls → Desk
+exportedAfter noCalls = fresh
+exportedAfter (calls andThen c) = handedBack (exportedAfter calls) c
 
--- the struct in a mark's reply is the one made of the desk handed back, whatever the answer
-reply-desk : (d : DeskState) (a : MarkAnswer) → answerReply d a .desk ≡ d
+-- the desk in a mark's reply is the one handed back, whatever the answer
+reply-desk : (d : Desk) (a : MarkAnswer) → answerReply d a .desk ≡ d
 reply-desk d (Marked k (Valid count shortfall)) = refl
 reply-desk d (Marked k (Clash first second kind)) = refl
 reply-desk d (Refused k) = refl
 
--- It is the struct of demand 3's desk after these calls. So the next exported call answers as demand 3 says: its contract speaks of
--- deskOf of this struct, and deskOf (stateOf d) is d.
-pub exported-desk-after : (calls : Calls) → stateAfter calls ≡ stateOf (deskAfter calls)
-unfolding stateAfter deskAfter
+-- It is demand 3's desk after these calls. So the next exported call answers as demand 3 says.
+pub exported-desk-after : (calls : Calls) → exportedAfter calls ≡ deskAfter calls
+unfolding exportedAfter deskAfter
 exported-desk-after noCalls = refl
 exported-desk-after (calls andThen load s w) = ap (λ d. handedBack d (load s w)) (exported-desk-after calls)
-exported-desk-after (calls andThen mark l) = ap (λ d. handedBack d (mark l)) (exported-desk-after calls) ∙ reply-desk _ (markOf (deskAfter calls) l .answer)
+exported-desk-after (calls andThen mark l) =
+    ap (λ d. handedBack d (mark l)) (exported-desk-after calls) ∙ reply-desk _ (markOf (deskAfter calls) l .answer)
+
+-- No byte of a desk is left unset: its spare byte is 0 after any calls.
+pub spare-zero : (calls : Calls) → exportedAfter calls .held .spare ≡ 0
+spare-zero calls = ap (λ d. d .held .spare) (exported-desk-after calls) ∙ desk-spare-zero calls
 
 -- Where plate_make's number is 0, what it wrote is a plate made, in the words of demand 3.
-pub exported-plate-made : {s o w o′ w′ : List ℕ} (r : MakeResult) → MakingExported s o w r o′ w′ → r .number ≡ 0 → PlateMade s (take (r .written) o′)
+pub exported-plate-made : {s o w o′ w′ : List ℕ} (r : MakeResult) → MakingExported s o w r o′ w′ → r .number ≡ 0
+    → PlateMade s (take (r .written) o′)
 exported-plate-made {s} {o} {w} {o′} {w′} r m z =
     let y : 0 ≡ makingNo s (length o) (length w) = sym z ∙ m .first-no in
     record {
@@ -53,7 +59,7 @@ exported-plate-made {s} {o} {w} {o′} {w′} r m z =
       output-after = o′;
       workspace-after = w′;
       made = record {
-        outcome = rw (← y) (ap (λ n. record { refused = false; number = 0; written = n }) (m .length ∙ ap (λ k. makeOutcomeOf s k .written) z));
+        outcome = rw (← y) (ap (λ n. record { refused = false; no = 0; written = n }) (m .length ∙ ap (λ k. makeOutcomeOf s k .written) z));
         workspace = m .workspace ∙ ap (λ k. workspaceAfter k w) z;
         output = rw z at (m .output);
       };

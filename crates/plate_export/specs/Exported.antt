@@ -35,26 +35,29 @@ pub record ReadingExported (p : List ℕ) (r : ReadResult) : Type 0 where
 
 -- FROM READ_PLATE'S CONTRACT
 
-pub exported-accepted : (p : List ℕ) (a : PlateAnswer) (i start : ℕ) → plateOutcome a ≡ plateOutcomeOf p → a ≡ AcceptedPlate i → start ≡ insideStart p → ReadingExported p (record { number = 0; spare = 0; «inside_start» = start; «inside_count» = i })
+pub exported-accepted : (p : List ℕ) (a : PlateAnswer) (i start : ℕ) → plateOutcome a ≡ plateOutcomeOf p → a ≡ AcceptedPlate i
+    → start ≡ insideStart p → ReadingExported p (record { number = 0; spare = 0; «inside_start» = start; «inside_count» = i })
 unfolding handedBackAt
 exported-accepted p a i start e q s =
     let f : plateOutcome (AcceptedPlate i) ≡ plateOutcomeOf p = ap plateOutcome (sym q) ∙ e in
-    let z : 0 ≡ plateNo p = λ d. f d .number in
+    let z : 0 ≡ plateNo p = λ d. f d .no in
     record { first-no = z; spare = refl; at = rw (← z) s; inside = λ d. f d .inside }
 
-pub exported-refused-plate : (p : List ℕ) (a : PlateAnswer) (k : ℕ) → plateOutcome a ≡ plateOutcomeOf p → a ≡ RefusedPlate k → ReadingExported p (record { number = k; spare = 0; «inside_start» = 0; «inside_count» = 0 })
+pub exported-refused-plate : (p : List ℕ) (a : PlateAnswer) (k : ℕ) → plateOutcome a ≡ plateOutcomeOf p → a ≡ RefusedPlate k
+    → ReadingExported p (record { number = k; spare = 0; «inside_start» = 0; «inside_count» = 0 })
 unfolding handedBackAt
 exported-refused-plate p a k e q =
     let f : plateOutcome (RefusedPlate k) ≡ plateOutcomeOf p = ap plateOutcome (sym q) ∙ e in
     let g : eqb (plateNo p) 0 ≡ false = not-true _ (sym (λ d. f d .refused)) in
-    record { first-no = λ d. f d .number; spare = refl; at = rw g; inside = λ d. f d .inside }
+    record { first-no = λ d. f d .no; spare = refl; at = rw g; inside = λ d. f d .inside }
 
 -- FROM MAKE'S PROMISE
 
-pub exported-made : {s o w o′ w′ : List ℕ} {k : ℕ} (a : MakeAnswer) → Making s o w a o′ w′ → a ≡ Made k → MakingExported s o w (record { number = 0; spare = 0; written = k }) o′ w′
+pub exported-made : {s o w o′ w′ : List ℕ} {k : ℕ} (a : MakeAnswer) → Making s o w a o′ w′ → a ≡ Made k
+    → MakingExported s o w (record { number = 0; spare = 0; written = k }) o′ w′
 exported-made {s} {o} {w} {o′} {w′} {k} a m e =
     let m′ : Making s o w (Made k) o′ w′ = rw e at m in
-    let z : 0 ≡ makingNo s (length o) (length w) = λ i. m′ .outcome i .number in
+    let z : 0 ≡ makingNo s (length o) (length w) = λ i. m′ .outcome i .no in
     record {
       first-no = z;
       spare = refl;
@@ -63,10 +66,11 @@ exported-made {s} {o} {w} {o′} {w′} {k} a m e =
       output = m′ .output;
     }
 
-pub exported-refused : {s o w o′ w′ : List ℕ} {k : ℕ} (a : MakeAnswer) → Making s o w a o′ w′ → a ≡ Refused k → MakingExported s o w (record { number = k; spare = 0; written = 0 }) o′ w′
+pub exported-refused : {s o w o′ w′ : List ℕ} {k : ℕ} (a : MakeAnswer) → Making s o w a o′ w′ → a ≡ Refused k
+    → MakingExported s o w (record { number = k; spare = 0; written = 0 }) o′ w′
 exported-refused {s} {o} {w} {o′} {w′} {k} a m e =
     let m′ : Making s o w (Refused k) o′ w′ = rw e at m in
-    let z : k ≡ makingNo s (length o) (length w) = λ i. m′ .outcome i .number in
+    let z : k ≡ makingNo s (length o) (length w) = λ i. m′ .outcome i .no in
     let f : true ≡ not (eqb (makingNo s (length o) (length w)) 0) = λ i. m′ .outcome i .refused in
     let g : eqb k 0 ≡ false = ap (λ (n : ℕ). eqb n 0) z ∙ not-true _ (sym f) in
     record {

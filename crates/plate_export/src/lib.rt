@@ -1,14 +1,12 @@
-// The calls for other languages, over numbers, slices and plain structs. No byte of a struct is left unset: a spare field, always 0 in what
-// is returned, stands where C's alignment would leave some.
+// The calls for other languages, over numbers, slices and plain structs. No byte of a struct is left unset: a spare field stands where C's
+// alignment would leave some. It is 0 in what is returned, in a desk after any calls from desk_new on.
 ghost use mathlib.Core.Path.{_≡_};
-ghost use Prim.Native.Nat.{_+_, _*_};
-ghost use Rattle.format.specs.Sheet.{pointCount, sheetNo};
+ghost use Rattle.format.specs.Sheet.{sheetNo};
 ghost use Rattle.format.specs.MakingQuestions.{workspaceAfter};
 ghost use Rattle.desk.specs.Desk.{fresh, loadOf, markOf};
-ghost use Rattle.lines.specs.Listing.{listingOf};
-ghost use Rattle.lines.specs.Writing.{Prints};
+ghost use Rattle.lines.specs.Writing.{PrintsListing};
 ghost use Rattle.plate_export.specs.Exported.{MakingExported, ReadingExported};
-ghost use Rattle.plate_export.specs.ExportedDesk.{deskOf, stateOf, loadReply, kindNumber, verdictReply, markReply};
+ghost use Rattle.plate_export.specs.ExportedDesk.{loadReply, kindNumber, verdictReply, markReply};
 use clash::ClashKind;
 use desk::Desk;
 use desk::LoadAnswer;
@@ -25,7 +23,7 @@ pub extern "C" fn plate_check_sheet(sheet: &[u8]) -> u32
 {
     match format::check_sheet(sheet) {
         SheetAnswer::Accepted => 0,
-        SheetAnswer::Refused(number) => number as u32,
+        SheetAnswer::Refused(no) => no as u32,
     }
 }
 
@@ -40,7 +38,8 @@ pub struct MakeResult {
 // plate_maker::make.
 #[no_mangle]
 pub extern "C" fn plate_make(sheet: &[u8], output: &mut [u8], workspace: &mut [u16]) -> MakeResult
-    ensures { λ r. ⌜ MakingExported (now (sheet .entry)) (now (output .entry)) (now (workspace .entry)) r (now (output .exit)) (now (workspace .exit)) ⌝ }
+    ensures { λ r. ⌜ MakingExported (now (sheet .entry)) (now (output .entry)) (now (workspace .entry)) r
+        (now (output .exit)) (now (workspace .exit)) ⌝ }
 {
     match plate_maker::make(sheet, output, workspace) {
         MakeAnswer::Made(written) => MakeResult {
@@ -48,8 +47,8 @@ pub extern "C" fn plate_make(sheet: &[u8], output: &mut [u8], workspace: &mut [u
             spare: 0,
             written: written as u64,
         },
-        MakeAnswer::Refused(number) => MakeResult {
-            number: number as u32,
+        MakeAnswer::Refused(no) => MakeResult {
+            number: no as u32,
             spare: 0,
             written: 0,
         },
@@ -78,8 +77,8 @@ pub extern "C" fn plate_read(plate: &[u8]) -> ReadResult
             inside_start: 11 + 6 * format::point_count(plate) as u64,
             inside_count: count as u64,
         },
-        PlateAnswer::Refused(number) => ReadResult {
-            number: number as u32,
+        PlateAnswer::Refused(no) => ReadResult {
+            number: no as u32,
             spare: 0,
             inside_start: 0,
             inside_count: 0,
@@ -90,25 +89,15 @@ pub extern "C" fn plate_read(plate: &[u8]) -> ReadResult
 // lines::listing: the length of the listing, 0 where the buffer is too short for it.
 #[no_mangle]
 pub extern "C" fn plate_listing(plate: &[u8], buffer: &mut [u8]) -> usize
-    ensures { λ r. ⌜ Prints (24 + 16 * pointCount (now (plate .entry))) (listingOf (now (plate .entry))) (now (buffer .entry)) r (now (buffer .exit)) ⌝ }
+    ensures { λ r. ⌜ PrintsListing (now (plate .entry)) (now (buffer .entry)) r (now (buffer .exit)) ⌝ }
 {
     lines::listing(plate, buffer)
-}
-
-// A desk, field for field that of the crate desk. The spare byte of a desk that comes in is ignored.
-#[repr(C)]
-pub struct DeskState {
-    pub sheet: [u8; 202],
-    pub loaded: bool,
-    pub spare: u8,
-    pub best: u16,
-    pub last: u16,
 }
 
 // What desk_load answers: the desk after it, and the number of the first no, 0 where the sheet is loaded.
 #[repr(C)]
 pub struct DeskLoadResult {
-    pub desk: DeskState,
+    pub desk: Desk,
     pub number: u32,
 }
 
@@ -117,7 +106,7 @@ pub struct DeskLoadResult {
 // All else is 0.
 #[repr(C)]
 pub struct DeskMarkResult {
-    pub desk: DeskState,
+    pub desk: Desk,
     pub number: u32,
     pub list_number: u32,
     pub verdict: u32,
@@ -125,31 +114,6 @@ pub struct DeskMarkResult {
     pub shortfall: u32,
     pub first: u32,
     pub second: u32,
-}
-
-fn desk_of(state: DeskState) -> Desk
-    ensures { λ r. ⌜ r ≡ deskOf state ⌝ }
-{
-    let sheet = state.sheet;
-    Desk {
-        sheet,
-        loaded: state.loaded,
-        best: state.best,
-        last: state.last,
-    }
-}
-
-fn state_of(desk: Desk) -> DeskState
-    ensures { λ r. ⌜ r ≡ stateOf desk ⌝ }
-{
-    let sheet = desk.sheet;
-    DeskState {
-        sheet,
-        loaded: desk.loaded,
-        spare: 0,
-        best: desk.best,
-        last: desk.last,
-    }
 }
 
 // The number of a clash's kind.
@@ -163,7 +127,7 @@ fn kind_number(kind: ClashKind) -> u32
 }
 
 // The answer on a marked list.
-fn verdict_reply(desk: DeskState, list_number: u16, verdict: Verdict) -> DeskMarkResult
+fn verdict_reply(desk: Desk, list_number: u16, verdict: Verdict) -> DeskMarkResult
     ensures { λ r. ⌜ r ≡ verdictReply desk «list_number» verdict ⌝ }
 {
     match verdict {
@@ -196,45 +160,46 @@ fn verdict_reply(desk: DeskState, list_number: u16, verdict: Verdict) -> DeskMar
 
 // desk::Desk::new.
 #[no_mangle]
-pub extern "C" fn desk_new() -> DeskState
-    ensures { λ r. ⌜ r ≡ stateOf fresh ⌝ }
+pub extern "C" fn desk_new() -> Desk
+    ensures { λ r. ⌜ r ≡ fresh ⌝ }
 {
-    state_of(Desk::new())
+    Desk::new()
 }
 
 // desk::Desk::load.
 #[no_mangle]
-pub extern "C" fn desk_load(desk: DeskState, sheet: &[u8], workspace: &mut [u16]) -> DeskLoadResult
-    ensures { λ r. ⌜ (r ≡ loadReply (loadOf (deskOf desk) (now (sheet .entry)) (now (workspace .entry)))) × (now (workspace .exit) ≡ workspaceAfter (r .number) (now (workspace .entry))) ⌝ }
+pub extern "C" fn desk_load(desk: Desk, sheet: &[u8], workspace: &mut [u16]) -> DeskLoadResult
+    ensures { λ r. ⌜ r ≡ loadReply (loadOf desk (now (sheet .entry)) (now (workspace .entry))) ⌝ }
+    ensures { λ r. ⌜ now (workspace .exit) ≡ workspaceAfter (r .number) (now (workspace .entry)) ⌝ }
 {
-    let loaded = desk_of(desk).load(sheet, workspace);
+    let loaded = desk.load(sheet, workspace);
     let after = loaded.desk;
     let answer = loaded.answer;
     match answer {
         LoadAnswer::Accepted => DeskLoadResult {
-            desk: state_of(after),
+            desk: after,
             number: 0,
         },
-        LoadAnswer::Refused(number) => DeskLoadResult {
-            desk: state_of(after),
-            number: number as u32,
+        LoadAnswer::Refused(no) => DeskLoadResult {
+            desk: after,
+            number: no as u32,
         },
     }
 }
 
 // desk::Desk::mark.
 #[no_mangle]
-pub extern "C" fn desk_mark(desk: DeskState, list: &[u8]) -> DeskMarkResult
-    ensures { λ r. ⌜ r ≡ markReply (markOf (deskOf desk) (now (list .entry))) ⌝ }
+pub extern "C" fn desk_mark(desk: Desk, list: &[u8]) -> DeskMarkResult
+    ensures { λ r. ⌜ r ≡ markReply (markOf desk (now (list .entry))) ⌝ }
 {
-    let marked = desk_of(desk).mark(list);
+    let marked = desk.mark(list);
     let after = marked.desk;
     let answer = marked.answer;
     match answer {
-        MarkAnswer::Marked { number, verdict } => verdict_reply(state_of(after), number, verdict),
-        MarkAnswer::Refused(number) => DeskMarkResult {
-            desk: state_of(after),
-            number: number as u32,
+        MarkAnswer::Marked { number, verdict } => verdict_reply(after, number, verdict),
+        MarkAnswer::Refused(no) => DeskMarkResult {
+            desk: after,
+            number: no as u32,
             list_number: 0,
             verdict: 0,
             count: 0,

@@ -37,7 +37,7 @@ fn verdicts() {
     let verdict = Verdict::Clash {
         first: 0,
         second: 1,
-        kind: ClashKind::Leader,
+        kind: ClashKind::LabelAndLeader,
     };
     assert_eq!(marked, Ok(Marked { number: 2, verdict }));
     let (_, marked) = desk.mark(&[0]);

@@ -11,8 +11,8 @@ check-sheet-requires c κs = search needs
 enum-told : tie.Need-enum-told
 enum-told c = search needs
 
-enum-known-number : tie.Need-enum-known-number
-enum-known-number c = search needs
+enum-known-no : tie.Need-enum-known-no
+enum-known-no c = search needs
 
 cast-result : tie.Need-cast-result
 cast-result c = search needs
@@ -21,9 +21,9 @@ returns : tie.Need-returns
 returns c = sym (accepted-none _ _ (c .before .before .check-sheet .ensures) (c .enum-told .given .1))
 
 returns-2 : tie.Need-returns-2
-returns-2 c = refused-no _ _ _ (c .before .before .before .check-sheet .ensures) (c .before .number .given .1) .0
+returns-2 c = refused-no _ _ _ (c .before .before .before .check-sheet .ensures) (c .before .no .given .1) .0
 
 pub plate-check-sheet-spec : {M : Type 1} → statement M
 plate-check-sheet-spec =
     tie.close
-    (tie.spec check-sheet-requires enum-told enum-known-number cast-result returns returns-2)
+    (tie.spec check-sheet-requires enum-told enum-known-no cast-result returns returns-2)

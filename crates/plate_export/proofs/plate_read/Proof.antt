@@ -27,18 +27,19 @@ add-t9 c = search needs
 cast-t10 : tie.Need-cast-t10
 cast-t10 c = search needs
 
-enum-known-number : tie.Need-enum-known-number
-enum-known-number c = search needs
+enum-known-no : tie.Need-enum-known-no
+enum-known-no c = search needs
 
 cast-t11 : tie.Need-cast-t11
 cast-t11 c = search needs
 
 returns : tie.Need-returns
 returns c =
-    exported-accepted _ _ _ _ (c .before .before .before .before .read-plate .ensures) (c .before .before .count .given .1) (ap (λ (n : ℕ). 11 + 6 * n) (c .point-count .ensures))
+    exported-accepted _ _ _ _ (c .before .before .before .before .read-plate .ensures)
+    (c .before .before .count .given .1) (ap (λ (n : ℕ). 11 + 6 * n) (c .point-count .ensures))
 
 returns-2 : tie.Need-returns-2
-returns-2 c = exported-refused-plate _ _ _ (c .before .before .before .read-plate .ensures) (c .before .number .given .1)
+returns-2 c = exported-refused-plate _ _ _ (c .before .before .before .read-plate .ensures) (c .before .no .given .1)
 
 pub plate-read-spec : {M : Type 1} → statement M
 plate-read-spec =
@@ -51,7 +52,7 @@ plate-read-spec =
     mul-t8
     add-t9
     cast-t10
-    enum-known-number
+    enum-known-no
     cast-t11
     returns
     returns-2)
