@@ -6,6 +6,7 @@ use native.Mathlib.Omega.{arith}
 use Rattle.labeling.specs.Points.{Choice}
 use Rattle.labeling.specs.Best.{weight, oneEach, count, bestCount, Best, OnlyBest}
 use Rattle.labeling.specs.Greatest.{best-count-most}
+use Rattle.format.specs.Sizes.{plateRoom, workspaceCells}
 use Rattle.format.specs.Sheet.{pointCount, pointsOf, sheetNo}
 use Rattle.format.specs.Accepted.{Accepted, accepted}
 use Rattle.format.specs.MakingQuestions.{makingNo, none-making}
@@ -21,14 +22,18 @@ module _ (s : List ℕ) (S : Choice) (ok : sheetNo s ≡ 0) (only : OnlyBest (po
   right : Accepted s
   right = accepted s ok
 
-  made : makingNo s 268 32768 ≡ 0
-  made = let few : pointCount s ≤ 32 = right .proper .few in none-making s 268 32768 .of (right, (omega arith, (omega arith, tt)))
+  made : makingNo s plateRoom workspaceCells ≡ 0
+  made =
+      let few : pointCount s ≤ 32 = right .proper .few in
+      none-making s plateRoom workspaceCells .of (right, (omega arith, (omega arith, tt)))
 
   listed-best : (text : List ℕ) (b : BestListing s text) → Best (pointsOf s) oneEach (b .choice)
   unfolding count
   listed-best text b = record {
     valid = b .valid;
-    most = λ R v. let e : weight (pointsOf s) oneEach (b .choice) ≡ bestCount (pointsOf s) = b .best in rw e (best-count-most (pointsOf s) R (right .proper .label-width .0) v);
+    most = λ R v.
+        let e : weight (pointsOf s) oneEach (b .choice) ≡ bestCount (pointsOf s) = b .best in
+        rw e (best-count-most (pointsOf s) R (right .proper .label-width .0) v);
   }
 
   pub only-printed : (text : List ℕ) → PrintedText s text → text ≡ listingOf (plateOf s S)

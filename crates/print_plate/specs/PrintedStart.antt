@@ -1,4 +1,5 @@
--- The first 203 bytes of an input decide what is printed, so that print_plate reads no more than 4,096 of them. Assumes nothing.
+-- The first 203 bytes of an input decide what is printed, one more than the largest sheet has: so print_plate needn't read all of an input.
+-- Assumes nothing.
 use mathlib.Core.Path.{_≡_, refl, sym, _∙_}
 use mathlib.Core.List.{List}
 use Prim.Native.Nat.{ℕ, zero, suc, _+_, _*_, _≤_, _<_}
@@ -7,17 +8,18 @@ use lib.ListN.{length, take}
 use lib.Seq.{take-all}
 use borrow.Author.Tests.{leb-true, leb-false}
 use native.Mathlib.Omega.{arith}
-use Rattle.labeling.specs.Tests.{decide}
+use Rattle.labeling.specs.Decide.{decide}
+use Rattle.format.specs.Sizes.{sheetRoom, plateRoom, workspaceCells}
 use Rattle.format.specs.Sheet.{pointCount, sheetNo}
 use Rattle.format.specs.Accepted.{accepted}
 use Rattle.format.specs.Asking.{then-first}
-use Rattle.format.specs.MakingQuestions.{makingNo}
+use Rattle.format.specs.MakingQuestions.{askedNo, makingNo}
 use Rattle.format.specs.Start.{start-decides}
 use Rattle.print_plate.specs.PrintedText.{TextBy, PrintedText}
 
 -- a sheet that is refused is refused in making
-refused-making : (s : List ℕ) → (sheetNo s ≡ 0 → ⊥) → makingNo s 268 32768 ≡ sheetNo s
-unfolding makingNo
+refused-making : (s : List ℕ) → (sheetNo s ≡ 0 → ⊥) → makingNo s plateRoom workspaceCells ≡ sheetNo s
+unfolding makingNo askedNo
 refused-making s some = sym (then-first (sheetNo s) _ (sheetNo s) some refl)
 
 -- the text of a refusal has nothing of the bytes but the number
@@ -25,7 +27,7 @@ refused-text : (k : ℕ) (s t text : List ℕ) → (k ≡ 0 → ⊥) → TextBy 
 refused-text zero s t text some e = absurd (some refl)
 refused-text (suc k) s t text some e = e
 
-module _ (k : ℕ) (s : List ℕ) (enough : 203 ≤ k) where
+module _ (k : ℕ) (s : List ℕ) (enough : sheetRoom < k) where
   -- an input of more than k bytes is no sheet
   too-long : k < length s → sheetNo s ≡ 0 → ⊥
   too-long more z =
@@ -37,8 +39,9 @@ module _ (k : ℕ) (s : List ℕ) (enough : 203 ≤ k) where
   cut : k < length s → (text : List ℕ) → PrintedText (take k s) text → PrintedText s text
   cut more text p =
       let some : sheetNo s ≡ 0 → ⊥ = too-long more in
-      let same : sheetNo (take k s) ≡ sheetNo s = start-decides k s enough in
-      let a : makingNo (take k s) 268 32768 ≡ sheetNo s = refused-making (take k s) (λ z. some (sym same ∙ z)) ∙ same in
+      let same : sheetNo (take k s) ≡ sheetNo s = start-decides k s (omega arith) in
+      let a : makingNo (take k s) plateRoom workspaceCells ≡ sheetNo s =
+      refused-making (take k s) (λ z. some (sym same ∙ z)) ∙ same in
       let q : TextBy (sheetNo s) (take k s) text = rw a at p in
       rw (refused-making s some) (refused-text (sheetNo s) (take k s) s text some q)
 

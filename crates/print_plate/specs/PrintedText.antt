@@ -6,6 +6,7 @@ use Prim.Native.Nat.{ℕ, zero, suc}
 use Rattle.labeling.specs.Points.{Choice}
 use Rattle.labeling.specs.Marks.{Valid}
 use Rattle.labeling.specs.Best.{count, bestCount}
+use Rattle.format.specs.Sizes.{plateRoom, workspaceCells}
 use Rattle.format.specs.Sheet.{pointsOf}
 use Rattle.format.specs.MakingQuestions.{makingNo}
 use Rattle.format.specs.Plate.{plateOf}
@@ -25,6 +26,10 @@ abbrev pub TextBy : ℕ → List ℕ → List ℕ → Type 0
 TextBy zero s text = BestListing s text
 TextBy (suc k) s text = text ≡ refusalLine (suc k)
 
--- THE PRINTED TEXT of the sheet s: the output has room for 268 bytes, the workspace 32,768 numbers.
+-- THE PRINTED TEXT of the sheet s: the output has room for every plate, and the workspace the cells that it needs.
 abbrev pub PrintedText : List ℕ → List ℕ → Type 0
-PrintedText s text = TextBy (makingNo s 268 32768) s text
+PrintedText s text = TextBy (makingNo s plateRoom workspaceCells) s text
+
+-- the room for every text: the listing of 32 points has at most 24 + 16 · 32 bytes
+abbrev pub textRoom : ℕ
+textRoom = 536

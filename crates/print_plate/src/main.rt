@@ -1,6 +1,8 @@
 // Prints the listing of a best plate of the sheet on standard input, or `refused` and the number of the first no. Where a read or a write
 // fails it stops, with a line on standard error.
-// A buffer of 4,096 bytes is enough for an input of any length: specs/PrintedStart.antt shows that the first 203 bytes decide the text.
+// The buffer is enough for an input of any length: one byte more than the largest sheet has decides the text (specs/PrintedStart.antt).
+use format::PLATE_ROOM;
+use format::WORKSPACE_CELLS;
 use lines::listing;
 use lines::refusal_line;
 use plate_maker::MakeAnswer;
@@ -10,19 +12,21 @@ use streams::write_output;
 ghost use mathlib.Core.Path.{_≡_};
 ghost use Prim.Native.Nat.{_≤_};
 ghost use lib.ListN.{length, take};
-ghost use Rattle.print_plate.specs.PrintedText.{PrintedText};
+ghost use Rattle.print_plate.specs.PrintedText.{PrintedText, textRoom};
 
-// Makes a plate of the sheet and writes its listing into the text, or the line of its refusal: the length of what it writes. The output has
-// room for the largest plate, of 12 + 8 · 32 bytes.
+// Room for the listing of 32 points, 24 + 16 · 32 bytes.
+const TEXT_ROOM: usize = 536;
+
+// Makes a plate of the sheet and writes its listing into the text, or the line of its refusal: the length of what it writes.
 fn put_text(sheet: &[u8], text: &mut [u8]) -> usize
-    requires { ⌜ 536 ≤ length (now text) ⌝ }
+    requires { ⌜ textRoom ≤ length (now text) ⌝ }
     ensures { λ r. ⌜ (r ≤ length (now (text .exit))) × PrintedText (now (sheet .entry)) (take r (now (text .exit))) ⌝ }
 {
-    let mut output = [0u8; 268];
-    let mut workspace = [0u16; 32768];
+    let mut output = [0u8; PLATE_ROOM];
+    let mut workspace = [0u16; WORKSPACE_CELLS];
     match plate_maker::make(sheet, &mut output, &mut workspace) {
         MakeAnswer::Made(written) => listing(&output[..written], text),
-        MakeAnswer::Refused(number) => refusal_line(number, text),
+        MakeAnswer::Refused(no) => refusal_line(no, text),
     }
 }
 
@@ -33,11 +37,10 @@ fn write_text(sheet: &[u8], text: &[u8])
     write_output(text);
 }
 
-// Room for the listing of 32 points, 24 + 16 · 32 bytes.
-fn text_room() -> [u8; 536]
-    ensures { λ r. ⌜ 536 ≡ length r ⌝ }
+fn text_room() -> [u8; TEXT_ROOM]
+    ensures { λ r. ⌜ textRoom ≡ length r ⌝ }
 {
-    [0; 536]
+    [0; TEXT_ROOM]
 }
 
 fn print_plate_of(sheet: &[u8]) {

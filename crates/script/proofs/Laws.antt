@@ -1,46 +1,46 @@
 -- From what a step read to what its caller promises. Assumes nothing.
 use mathlib.Core.Path.{_≡_, refl}
-use mathlib.Core.Bool.{Bool, true, false}
+use mathlib.Core.Bool.{Bool, true, false, cond}
 use mathlib.Core.List.{List}
 use Prim.Native.Nat.{ℕ, _≤_}
 use lib.Dec.{ltb}
 use lib.ListN.{length}
-use Rattle.io.specs.Counts.{Counts}
 use Rattle.streams.specs.Moves.{counts}
-use Rattle.script.specs.Calls.{CallIn, CallOf, KindOf, PartIn, PartOf, isKind, kindOf, partOf}
+use Rattle.script.specs.Calls.{BothStand, CallIn, CallOf, PartIn, PartOf, formOf, partOf}
 use Rattle.script.specs.declared.Kinds.{Kinds}
-use Rattle.script.specs.declared.Kind.{Kind}
-use Rattle.script.specs.declared.Kind.the-variants.{Known}
+use Rattle.script.specs.declared.Form.{Form}
+use Rattle.script.specs.declared.Form.the-variants.{Parts}
+use Rattle.script.specs.declared.Part.{Part}
+use Rattle.script.specs.declared.Part.the-variants.{Sized}
 use Rattle.script.specs.declared.PartRead.{PartRead}
 use Rattle.script.specs.declared.PartRead.the-variants.{Whole, Short}
 use Rattle.script.specs.declared.Call.{Call}
-use Rattle.script.specs.declared.Call.the-variants.{Part, Bad}
+use Rattle.script.specs.declared.Call.the-variants.{Known, Bad}
 
-decide : (b : Bool) {X : Type 0} → (b ≡ true → X) → (b ≡ false → X) → X
-decide true f g = f refl
-decide false f g = g refl
-
-pub kind-right : (kinds : Kinds) (kind : ℕ) (a : Kind) → a ≡ kindOf kinds kind → KindOf kinds a
-unfolding kindOf
-kind-right kinds kind a e = rw e (decide (isKind kinds kind) (λ t. rw t t) (λ t. rw t tt))
-
-pub kind-known : (kinds : Kinds) (a : Kind) (kind : ℕ) → KindOf kinds a → a ≡ Known kind → isKind kinds kind ≡ true
-kind-known kinds a kind h e = rw e at h
+short-or-whole : (b : Bool) (count : ℕ) (buffer : List ℕ) →
+    count ≤ length buffer →
+    PartOf count buffer (cond b Short (Whole count))
+short-or-whole true count buffer h = tt
+short-or-whole false count buffer h = (refl, counts count buffer h)
 
 pub part-right : (count got : ℕ) (buffer : List ℕ) (a : PartRead) → a ≡ partOf count got → count ≤ length buffer → PartOf count buffer a
 unfolding partOf
-part-right count got buffer a e h = rw e (decide (ltb got count) (λ t. rw t tt) (λ t. rw t (refl, counts count buffer h)))
+part-right count got buffer a e h = rw e (short-or-whole (ltb got count) count buffer h)
 
-pub part-in : (count : ℕ) (buffer : List ℕ) (a : PartRead) → PartOf count buffer a → PartIn buffer a
-part-in count buffer (Whole n) h = h .1
-part-in count buffer Short h = tt
-part-in count buffer PartRead.Failed h = tt
+pub part-sized : (count : ℕ) (buffer : List ℕ) (a : PartRead) → PartOf count buffer a → PartIn Sized buffer a
+part-sized count buffer (Whole n) h = h .1
+part-sized count buffer Short h = tt
+part-sized count buffer PartRead.Failed h = tt
 
-pub part-counts : (buffer : List ℕ) (a : PartRead) (n : ℕ) → PartIn buffer a → a ≡ Whole n → Counts n buffer
-part-counts buffer a n h e = rw e at h
+module _ (form : Form) (a b : Part) (first second : List ℕ) (x y : PartRead) (n m : ℕ) (parts : form ≡ Parts a b) where
+  pub both-stand : PartIn a first x → x ≡ Whole n → PartIn b second y → y ≡ Whole m → BothStand form first second n m
+  both-stand p e q f = rw parts (rw e at p, rw f at q)
 
-pub call-in : (kinds : Kinds) (kind : ℕ) (buffer : List ℕ) (a : Call) → isKind kinds kind ≡ true → CallOf kind buffer a → CallIn kinds buffer a
-call-in kinds kind buffer (Part k n) known h = (rw (h .0) known, h .1)
-call-in kinds kind buffer Bad known h = tt
-call-in kinds kind buffer Call.End known h = tt
-call-in kinds kind buffer Call.Failed known h = tt
+pub call-in : (kinds : Kinds) (kind : ℕ) (form : Form) (first second : List ℕ) (a : Call) →
+    form ≡ formOf kinds kind →
+    CallOf kind form first second a →
+    CallIn kinds first second a
+call-in kinds kind form first second (Known k n m) e h = rw (h .0) (rw e at (h .1))
+call-in kinds kind form first second Bad e h = tt
+call-in kinds kind form first second Call.End e h = tt
+call-in kinds kind form first second Call.Failed e h = tt

@@ -1,29 +1,41 @@
--- What the contracts cite: the kinds that are known, and what was read. No contract can speak of what an operating system read, so all
--- that isn't a whole call says nothing more. Assumes nothing.
+-- What the contracts cite: the kinds that are known, with the parts of their calls, and what was read. No contract can speak of what an
+-- operating system read, so all that isn't a whole call says nothing more. Assumes nothing.
 use Prim.Native.Nat.{ℕ, _+_, _*_}
-use mathlib.Core.Path.{_≡_}
-use mathlib.Core.Bool.{Bool, true, cond, _&&_, _||_}
+use mathlib.Core.Path.{_≡_, refl}
+use mathlib.Core.Bool.{cond}
 use mathlib.Core.List.{List}
-use lib.Dec.{ltb, leb}
+use lib.Dec.{eqb, ltb}
+use native.Mathlib.Omega.{arith}
 use Rattle.io.specs.Counts.{Counts}
 use Rattle.script.specs.declared.Kinds.{Kinds}
 use Rattle.script.specs.declared.Kinds.the-variants.{Desk, All}
-use Rattle.script.specs.declared.Kind.{Kind}
-use Rattle.script.specs.declared.Kind.the-variants.{Known, Unknown}
+use Rattle.script.specs.declared.Part.{Part}
+use Rattle.script.specs.declared.Part.the-variants.{Absent, Sized}
+use Rattle.script.specs.declared.Form.{Form}
+use Rattle.script.specs.declared.Form.the-variants.{Parts, Unknown}
 use Rattle.script.specs.declared.PartRead.{PartRead}
 use Rattle.script.specs.declared.PartRead.the-variants.{Whole, Short}
 use Rattle.script.specs.declared.Call.{Call}
-use Rattle.script.specs.declared.Call.the-variants.{Part, Bad}
+use Rattle.script.specs.declared.Call.the-variants.{Known, Bad}
 
--- KINDS
+-- THE KINDS, and the parts of a call of each
 
-unfoldable pub isBetween : ℕ → ℕ → ℕ → Bool
-isBetween first last kind = leb first kind && leb kind last
+-- a call of one part
+abbrev pub onePart : Form
+onePart = Parts Sized Absent
 
--- the calls of a desk have kinds 1 and 2, those without a desk 11 and 12
-unfoldable pub isKind : Kinds → ℕ → Bool
-isKind Desk kind = isBetween 1 2 kind
-isKind All kind = isBetween 1 2 kind || isBetween 11 12 kind
+-- the calls on a desk: 1 loads a sheet, 2 marks a list
+unfoldable pub deskForm : ℕ → Form
+deskForm kind = cond (eqb kind 1) onePart (cond (eqb kind 2) onePart Unknown)
+
+-- the calls on a desk, and those without one: 11 makes a plate of a sheet, 12 reads a plate
+unfoldable pub allForm : ℕ → Form
+allForm kind = cond (eqb kind 11) onePart (cond (eqb kind 12) onePart (deskForm kind))
+
+-- the form of a call of this kind, where a program knows these kinds
+abbrev pub formOf : Kinds → ℕ → Form
+formOf Desk kind = deskForm kind
+formOf All kind = allForm kind
 
 -- WHAT WAS READ
 
@@ -31,20 +43,9 @@ isKind All kind = isBetween 1 2 kind || isBetween 11 12 kind
 abbrev pub numberIn : ℕ → ℕ → ℕ
 numberIn low high = low + 256 * high
 
--- what a byte stands for where a call would start
-unfoldable pub kindOf : Kinds → ℕ → Kind
-kindOf kinds kind = cond (isKind kinds kind) (Known kind) Unknown
-
 -- a part of `count` bytes of which `got` were there is whole if none is missing
 unfoldable pub partOf : ℕ → ℕ → PartRead
 partOf count got = cond (ltb got count) Short (Whole count)
-
--- a kind that is known is one of those asked for
-abbrev pub KindOf : Kinds → Kind → Type 0
-KindOf kinds (Known kind) = isKind kinds kind ≡ true
-KindOf kinds Unknown = Unit {0}
-KindOf kinds Kind.End = Unit {0}
-KindOf kinds Kind.Failed = Unit {0}
 
 -- a whole part has as many bytes as its length says, and stands at the start of the buffer
 abbrev pub PartOf : ℕ → List ℕ → PartRead → Type 0
@@ -52,27 +53,48 @@ PartOf count buffer (Whole n) = (n ≡ count) × Counts n buffer
 PartOf count buffer Short = Unit {0}
 PartOf count buffer PartRead.Failed = Unit {0}
 
--- a whole part stands at the start of the buffer
-abbrev pub PartIn : List ℕ → PartRead → Type 0
-PartIn buffer (Whole n) = Counts n buffer
-PartIn buffer Short = Unit {0}
-PartIn buffer PartRead.Failed = Unit {0}
+-- a whole part of n bytes stands at the start of the buffer; one that the call doesn't have has no bytes
+abbrev pub Stands : Part → List ℕ → ℕ → Type 0
+Stands Absent buffer n = n ≡ 0
+Stands Sized buffer n = Counts n buffer
 
--- a call of one kind has that kind, and its part stands at the start of the buffer
-abbrev pub CallOf : ℕ → List ℕ → Call → Type 0
-CallOf kind buffer (Part k n) = (k ≡ kind) × Counts n buffer
-CallOf kind buffer Bad = Unit {0}
-CallOf kind buffer Call.End = Unit {0}
-CallOf kind buffer Call.Failed = Unit {0}
+-- what was read of a part
+abbrev pub PartIn : Part → List ℕ → PartRead → Type 0
+PartIn part buffer (Whole n) = Stands part buffer n
+PartIn part buffer Short = Unit {0}
+PartIn part buffer PartRead.Failed = Unit {0}
 
--- a call has a kind that is known, and its part stands at the start of the buffer
-abbrev pub CallIn : Kinds → List ℕ → Call → Type 0
-CallIn kinds buffer (Part kind n) = (isKind kinds kind ≡ true) × Counts n buffer
-CallIn kinds buffer Bad = Unit {0}
-CallIn kinds buffer Call.End = Unit {0}
-CallIn kinds buffer Call.Failed = Unit {0}
+-- the parts of a whole call, of n and m bytes, stand in their buffers; a kind that isn't known has no whole call
+abbrev pub BothStand : Form → List ℕ → List ℕ → ℕ → ℕ → Type 0
+BothStand (Parts a b) first second n m = Stands a first n × Stands b second m
+BothStand Unknown first second n m = ⊥
+
+-- a call of this kind and form
+abbrev pub CallOf : ℕ → Form → List ℕ → List ℕ → Call → Type 0
+CallOf kind form first second (Known k n m) = (k ≡ kind) × BothStand form first second n m
+CallOf kind form first second Bad = Unit {0}
+CallOf kind form first second Call.End = Unit {0}
+CallOf kind form first second Call.Failed = Unit {0}
+
+-- a call is of a kind that is known, and has that kind's parts
+abbrev pub CallIn : Kinds → List ℕ → List ℕ → Call → Type 0
+CallIn kinds first second (Known kind n m) = BothStand (formOf kinds kind) first second n m
+CallIn kinds first second Bad = Unit {0}
+CallIn kinds first second Call.End = Unit {0}
+CallIn kinds first second Call.Failed = Unit {0}
 
 -- A LAW, for those who call
 
-pub call-counts : (kinds : Kinds) (buffer : List ℕ) (a : Call) (kind n : ℕ) → CallIn kinds buffer a → a ≡ Part kind n → Counts n buffer
-call-counts kinds buffer a kind n h e = (rw e at h) .1
+stands-counts : (part : Part) (buffer : List ℕ) (n : ℕ) → Stands part buffer n → Counts n buffer
+stands-counts Absent buffer n h = rw h (omega arith, refl)
+stands-counts Sized buffer n h = h
+
+both-count : (form : Form) (first second : List ℕ) (n m : ℕ) → BothStand form first second n m → Counts n first × Counts m second
+both-count (Parts a b) first second n m h = (stands-counts a first n (h .0), stands-counts b second m (h .1))
+both-count Unknown first second n m h = absurd h
+
+pub call-counts : (kinds : Kinds) (first second : List ℕ) (a : Call) (kind n m : ℕ) →
+    CallIn kinds first second a →
+    a ≡ Known kind n m →
+    Counts n first × Counts m second
+call-counts kinds first second a kind n m h e = both-count (formOf kinds kind) first second n m (rw e at h)

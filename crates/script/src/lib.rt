@@ -1,12 +1,15 @@
 // Reads a script from standard input, call by call. A call is a kind byte and its parts, each a two-byte length, low byte first, and that
-// many bytes. Every kind here has one part.
+// many bytes. `form_of` says which kinds a program knows, and which parts a call of each kind has.
 ghost use mathlib.Core.Path.{_≡_};
 ghost use Prim.Native.Nat.{_≤_};
 ghost use lib.ListN.{length};
-ghost use Rattle.script.specs.Calls.{CallIn, CallOf, KindOf, PartIn, PartOf};
-ghost use Rattle.script.specs.Calls.{isBetween, isKind, kindOf, numberIn, partOf};
+ghost use Rattle.script.specs.Calls.{deskForm, allForm, formOf, onePart};
+ghost use Rattle.script.specs.Calls.{CallIn, CallOf, PartIn, PartOf, numberIn, partOf};
 use streams::Input;
 use streams::read_input;
+
+// Room for a part of any length.
+const PART_ROOM: usize = 65536;
 
 // The kinds that a program knows: those of a desk, or all.
 pub enum Kinds {
@@ -14,19 +17,31 @@ pub enum Kinds {
     All,
 }
 
-// What a script has next: a call, whose part fills the first bytes of the buffer; what isn't one, because its kind isn't known or its part
-// ends early; the end, where a call would start; or a read that failed, whose line is on standard error.
+// What a script has next: a call of a known kind, each of whose two parts fills the first bytes of its buffer, none of them if the call
+// has no such part; what isn't one, because its kind isn't known or a part ends early; the end, where a call would start; or a read that
+// failed, whose line is on standard error.
 pub enum Call {
-    Part { kind: u8, length: u16 },
+    Known { kind: u8, first: u16, second: u16 },
     Bad,
     End,
     Failed,
 }
 
-// What stands where a call would start.
-enum Kind {
-    Known(u8),
+// How a part stands in a call: not at all, or as its length and its bytes.
+enum Part {
+    Absent,
+    Sized,
+}
+
+// The form of a call by its kind: how its parts stand in it, or that the kind isn't known.
+enum Form {
+    Parts { first: Part, second: Part },
     Unknown,
+}
+
+// What stands where a call would start.
+enum Start {
+    Kind(u8),
     End,
     Failed,
 }
@@ -38,20 +53,49 @@ enum PartRead {
     Failed,
 }
 
-fn is_between(first: u8, last: u8, kind: u8) -> bool
-    ensures { λ r. ⌜ r ≡ isBetween first last kind ⌝ }
-{
-    first <= kind && kind <= last
-}
+// FORMS
 
-fn is_kind(kinds: Kinds, kind: u8) -> bool
-    ensures { λ r. ⌜ r ≡ isKind kinds kind ⌝ }
+fn one_part() -> Form
+    ensures { λ r. ⌜ r ≡ onePart ⌝ }
 {
-    match kinds {
-        Kinds::Desk => is_between(1, 2, kind),
-        Kinds::All => is_between(1, 2, kind) || is_between(11, 12, kind),
+    Form::Parts {
+        first: Part::Sized,
+        second: Part::Absent,
     }
 }
+
+// The calls on a desk.
+fn desk_form(kind: u8) -> Form
+    ensures { λ r. ⌜ r ≡ deskForm kind ⌝ }
+{
+    match kind {
+        1 => one_part(), // a sheet, which is loaded
+        2 => one_part(), // a list, which is marked
+        _ => Form::Unknown,
+    }
+}
+
+// The calls on a desk, and those without one.
+fn all_form(kind: u8) -> Form
+    ensures { λ r. ⌜ r ≡ allForm kind ⌝ }
+{
+    match kind {
+        11 => one_part(), // a sheet, which is made into a plate
+        12 => one_part(), // a plate, which is read
+        _ => desk_form(kind),
+    }
+}
+
+fn form_of(kinds: Kinds, kind: u8) -> Form
+    ensures { λ r. ⌜ r ≡ formOf kinds kind ⌝ }
+{
+    match kinds {
+        Kinds::Desk => desk_form(kind),
+        Kinds::All => all_form(kind),
+    }
+}
+
+// READING
 
 // The number in two bytes, low byte first.
 fn number_in(low: u8, high: u8) -> u16
@@ -60,27 +104,15 @@ fn number_in(low: u8, high: u8) -> u16
     low as u16 + 256 * high as u16
 }
 
-// What a byte stands for where a call would start.
-fn kind_of(kinds: Kinds, kind: u8) -> Kind
-    ensures { λ r. ⌜ r ≡ kindOf kinds kind ⌝ }
-{
-    if is_kind(kinds, kind) {
-        return Kind::Known(kind);
-    }
-    Kind::Unknown
-}
-
-fn read_kind(kinds: Kinds) -> Kind
-    ensures { λ r. ⌜ KindOf kinds r ⌝ }
-{
+fn read_kind() -> Start {
     let mut bytes = [0u8; 1];
     let Input::Read(n) = read_input(&mut bytes) else {
-        return Kind::Failed;
+        return Start::Failed;
     };
     if n == 0 {
-        return Kind::End;
+        return Start::End;
     }
-    kind_of(kinds, bytes[0])
+    Start::Kind(bytes[0])
 }
 
 // What became of a part of `count` bytes, of which `got` were there.
@@ -106,8 +138,9 @@ fn read_bytes(count: u16, buffer: &mut [u8]) -> PartRead
     part_of(count, got)
 }
 
-fn read_part(buffer: &mut [u8; 65536]) -> PartRead
-    ensures { λ r. ⌜ PartIn (now (buffer .exit)) r ⌝ }
+// A part's length and its bytes.
+fn read_sized(buffer: &mut [u8; PART_ROOM]) -> PartRead
+    ensures { λ r. ⌜ PartIn Part.Sized (now (buffer .exit)) r ⌝ }
 {
     let mut bytes = [0u8; 2];
     let Input::Read(n) = read_input(&mut bytes) else {
@@ -119,25 +152,54 @@ fn read_part(buffer: &mut [u8; 65536]) -> PartRead
     read_bytes(number_in(bytes[0], bytes[1]), buffer)
 }
 
-// The rest of a call whose kind was read.
-fn read_call_of(kind: u8, buffer: &mut [u8; 65536]) -> Call
-    ensures { λ r. ⌜ CallOf kind (now (buffer .exit)) r ⌝ }
+// A part, of which nothing is read if the call doesn't have it.
+fn read_part(part: Part, buffer: &mut [u8; PART_ROOM]) -> PartRead
+    ensures { λ r. ⌜ PartIn part (now (buffer .exit)) r ⌝ }
 {
-    match read_part(buffer) {
-        PartRead::Whole(length) => Call::Part { kind, length },
+    match part {
+        Part::Absent => PartRead::Whole(0),
+        Part::Sized => read_sized(buffer),
+    }
+}
+
+// The rest of a call whose kind was read. Nothing is read of one that isn't known.
+fn read_parts(
+    kind: u8,
+    form: Form,
+    first: &mut [u8; PART_ROOM],
+    second: &mut [u8; PART_ROOM],
+) -> Call
+    ensures { λ r. ⌜ CallOf kind form (now (first .exit)) (now (second .exit)) r ⌝ }
+{
+    let Form::Parts {
+        first: a,
+        second: b,
+    } = form
+    else {
+        return Call::Bad;
+    };
+    match read_part(a, first) {
+        PartRead::Whole(n) => match read_part(b, second) {
+            PartRead::Whole(m) => Call::Known {
+                kind,
+                first: n,
+                second: m,
+            },
+            PartRead::Short => Call::Bad,
+            PartRead::Failed => Call::Failed,
+        },
         PartRead::Short => Call::Bad,
         PartRead::Failed => Call::Failed,
     }
 }
 
 // The next call. Whether its kind is known is asked before anything more is read.
-pub fn read_call(kinds: Kinds, buffer: &mut [u8; 65536]) -> Call
-    ensures { λ r. ⌜ CallIn kinds (now (buffer .exit)) r ⌝ }
+pub fn read_call(kinds: Kinds, first: &mut [u8; PART_ROOM], second: &mut [u8; PART_ROOM]) -> Call
+    ensures { λ r. ⌜ CallIn kinds (now (first .exit)) (now (second .exit)) r ⌝ }
 {
-    match read_kind(kinds) {
-        Kind::Known(kind) => read_call_of(kind, buffer),
-        Kind::Unknown => Call::Bad,
-        Kind::End => Call::End,
-        Kind::Failed => Call::Failed,
+    match read_kind() {
+        Start::Kind(kind) => read_parts(kind, form_of(kinds, kind), first, second),
+        Start::End => Call::End,
+        Start::Failed => Call::Failed,
     }
 }

@@ -1,13 +1,19 @@
-// What the programs that run a desk share: a call, and its line on standard output.
+// Runs a script, for the programs desk_session and conformance: its calls, each with a line on standard output.
 ghost use mathlib.Core.Path.{_≡_};
-ghost use lib.ListN.{length};
-ghost use Rattle.desk.specs.Desk.{markOf};
-ghost use Rattle.session.specs.Session.{loaded as loadedBy, loadText, markText, callDesk, callText, Runs};
+ghost use Rattle.session.specs.Session.{Runs, deskAfterCall, deskCall, loadCall, markCall};
 use desk::Desk;
+use format::WORKSPACE_CELLS;
 use lines::LINE_ROOM;
 use lines::load_line;
 use lines::mark_line;
+use plates::run_plate;
+use plates::run_sheet;
+use script::Call;
+use script::Kinds;
+use script::read_call;
 use streams::write_output;
+
+mod plates;
 
 // The desk after a call, and the length of the call's line.
 struct Ran {
@@ -16,16 +22,16 @@ struct Ran {
 }
 
 // The desk after a call, and whether all of the call's line was written. If not, a line on standard error says why.
-pub struct Answered {
-    pub desk: Desk,
-    pub written: bool,
+struct Answered {
+    desk: Desk,
+    written: bool,
 }
 
-// Loads a sheet. The workspace is 32,768 zeros.
+// Loads a sheet. The workspace is zeros.
 fn run_load(desk: Desk, sheet: &[u8], line: &mut [u8]) -> Ran
-    ensures { λ r. ⌜ Runs (loadedBy desk (now (sheet .entry)) .desk) (loadText desk (now (sheet .entry))) (now (line .entry)) r (now (line .exit)) ⌝ }
+    ensures { λ r. ⌜ Runs (loadCall desk (now (sheet .entry))) (now (line .entry)) r (now (line .exit)) ⌝ }
 {
-    let mut workspace = [0u16; 32768];
+    let mut workspace = [0u16; WORKSPACE_CELLS];
     let result = desk.load(sheet, &mut workspace);
     let answer = result.answer;
     let loaded = result.desk;
@@ -38,7 +44,7 @@ fn run_load(desk: Desk, sheet: &[u8], line: &mut [u8]) -> Ran
 
 // Marks a list.
 fn run_mark(desk: Desk, list: &[u8], line: &mut [u8]) -> Ran
-    ensures { λ r. ⌜ Runs (markOf desk (now (list .entry)) .desk) (markText desk (now (list .entry))) (now (line .entry)) r (now (line .exit)) ⌝ }
+    ensures { λ r. ⌜ Runs (markCall desk (now (list .entry))) (now (line .entry)) r (now (line .exit)) ⌝ }
 {
     let result = desk.mark(list);
     let answer = result.answer;
@@ -52,7 +58,7 @@ fn run_mark(desk: Desk, list: &[u8], line: &mut [u8]) -> Ran
 
 // Kind 1 loads a sheet, every other kind marks a list.
 fn run_call(desk: Desk, kind: u8, part: &[u8], line: &mut [u8]) -> Ran
-    ensures { λ r. ⌜ Runs (callDesk desk kind (now (part .entry))) (callText desk kind (now (part .entry))) (now (line .entry)) r (now (line .exit)) ⌝ }
+    ensures { λ r. ⌜ Runs (deskCall desk kind (now (part .entry))) (now (line .entry)) r (now (line .exit)) ⌝ }
 {
     if kind == 1 {
         return run_load(desk, part, line);
@@ -62,22 +68,16 @@ fn run_call(desk: Desk, kind: u8, part: &[u8], line: &mut [u8]) -> Ran
 
 // Writes a line to standard output: whether all of it was written. What it asks says that the line is the call's.
 fn write_line(desk: Desk, kind: u8, part: &[u8], line: &[u8]) -> bool
-    requires { ⌜ now line ≡ callText desk kind (now part) ⌝ }
+    requires { ⌜ now line ≡ deskCall desk kind (now part) .text ⌝ }
 {
     write_output(line) == line.len()
 }
 
-fn line_room() -> [u8; LINE_ROOM]
-    ensures { λ r. ⌜ 31 ≡ length r ⌝ }
+// Runs a call on the desk and writes its line. Kind 1 loads a sheet, every other kind marks a list.
+fn answer_on_desk(desk: Desk, kind: u8, part: &[u8]) -> Answered
+    ensures { λ r. ⌜ r .desk ≡ deskCall desk kind (now (part .entry)) .desk ⌝ }
 {
-    [0; LINE_ROOM]
-}
-
-// Runs a call and writes its line. Kind 1 loads a sheet, every other kind marks a list.
-pub fn answer(desk: Desk, kind: u8, part: &[u8]) -> Answered
-    ensures { λ r. ⌜ r .desk ≡ callDesk desk kind (now (part .entry)) ⌝ }
-{
-    let mut line = line_room();
+    let mut line = [0u8; LINE_ROOM];
     let ran = run_call(desk, kind, part, &mut line);
     let n = ran.length;
     let after = ran.desk;
@@ -85,5 +85,56 @@ pub fn answer(desk: Desk, kind: u8, part: &[u8]) -> Answered
     Answered {
         desk: after,
         written,
+    }
+}
+
+// Runs a call and writes its line. Kind 11 is a sheet, which is made into a plate, kind 12 a plate, which is read; every other kind is a
+// call on the desk.
+fn answer(desk: Desk, kind: u8, part: &[u8]) -> Answered
+    ensures { λ r. ⌜ r .desk ≡ deskAfterCall desk kind (now (part .entry)) ⌝ }
+{
+    match kind {
+        11 => Answered {
+            desk,
+            written: run_sheet(part),
+        },
+        12 => Answered {
+            desk,
+            written: run_plate(part),
+        },
+        _ => answer_on_desk(desk, kind, part),
+    }
+}
+
+// Runs the script on standard input on a fresh desk and writes a line for each call. At a call that is cut short, or of none of these
+// kinds, it writes `bad call` and stops. It stops too where a read or a write fails, whose line is on standard error. No kind has a second
+// part, so that buffer stays as it is. The count of turns is there so that the loop ends for certain: no script has as many calls.
+pub fn run(kinds: Kinds) {
+    let mut first = io::large_buffer();
+    let mut second = io::large_buffer();
+    let mut desk = Desk::new();
+    let mut turns = u64::MAX;
+    while turns > 0 {
+        match read_call(kinds, &mut first, &mut second) {
+            Call::Known {
+                kind,
+                first: length,
+                second: _,
+            } => {
+                let n = length as usize;
+                let answered = answer(desk, kind, &first[..n]);
+                if !answered.written {
+                    return;
+                }
+                desk = answered.desk;
+            }
+            Call::Bad => {
+                write_output(b"bad call\n");
+                return;
+            }
+            Call::End => return,
+            Call::Failed => return,
+        }
+        turns -= 1;
     }
 }

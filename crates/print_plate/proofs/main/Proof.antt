@@ -26,7 +26,8 @@ array-share-prefix-bytes : tie.Need-array-share-prefix-bytes
 array-share-prefix-bytes c = read-counts _ _ _ (c .before .before .before .before .read-input .ensures) (c .before .n .given .1) .0
 
 slice-aggregate-print-plate-of : tie.Need-slice-aggregate-print-plate-of
-slice-aggregate-print-plate-of c = read-counts _ _ _ (c .before .before .before .before .before .read-input .ensures) (c .before .before .n .given .1) .1
+slice-aggregate-print-plate-of c =
+    read-counts _ _ _ (c .before .before .before .before .before .read-input .ensures) (c .before .before .n .given .1) .1
 
 print-plate-of-requires : tie.Need-print-plate-of-requires
 print-plate-of-requires c κs = search needs

@@ -4,6 +4,7 @@ use mathlib.Core.Path.{refl, sym}
 use Prim.Native.Nat.{ℕ}
 use lib.ListN.{length-replicate}
 use lib.Seq.{length-take-le}
+use Rattle.format.specs.Sizes.{workspaceCells}
 use Rattle.plate_maker.specs.MakingLaws.{made-within}
 use Rattle.print_plate.proofs.Laws.{made-text, refused-text}
 use Rattle.print_plate.proofs.put_text.Statement.{statement}
@@ -30,8 +31,8 @@ slice-aggregate-listing c = sym (length-take-le _ _ (array-share-prefix-output (
 listing-requires : tie.Need-listing-requires
 listing-requires c κs = search needs
 
-enum-known-number : tie.Need-enum-known-number
-enum-known-number c = search needs
+enum-known-no : tie.Need-enum-known-no
+enum-known-no c = search needs
 
 refusal-line-requires : tie.Need-refusal-line-requires
 refusal-line-requires c κs = search needs
@@ -40,13 +41,21 @@ same-length : tie.Need-same-length
 same-length c = search needs
 
 returns : tie.Need-returns
-returns c = made-text (c .before .before .before .before .before .before .before .before .before .before .make .ensures) refl (length-replicate {A = ℕ} 32768 0) (c .before .before .before .before .before .before .before .before .before .before .before .before .before .before .before .pre) (c .before .before .before .before .before .before .written .given .1) (c .before .before .listing .ensures)
+returns c =
+    made-text (c .before .before .before .before .before .before .before .before .before .before .make .ensures)
+    refl (length-replicate {A = ℕ} workspaceCells 0)
+    (c .before .before .before .before .before .before .before .before .before .before .before .before .before .before .before .pre)
+    (c .before .before .before .before .before .before .written .given .1) (c .before .before .listing .ensures)
 
 same-length-2 : tie.Need-same-length-2
 same-length-2 c = search needs
 
 returns-2 : tie.Need-returns-2
-returns-2 c = refused-text (c .before .before .before .before .before .before .before .before .before .make .ensures) refl (length-replicate {A = ℕ} 32768 0) (c .before .before .before .before .before .before .before .before .before .before .before .before .before .before .pre) (c .before .before .before .before .before .number .given .1) (c .before .before .refusal-line .ensures)
+returns-2 c =
+    refused-text (c .before .before .before .before .before .before .before .before .before .make .ensures)
+    refl (length-replicate {A = ℕ} workspaceCells 0)
+    (c .before .before .before .before .before .before .before .before .before .before .before .before .before .before .pre)
+    (c .before .before .before .before .before .no .given .1) (c .before .before .refusal-line .ensures)
 
 pub put-text-spec : {M : Type 1} → statement M
 put-text-spec =
@@ -59,7 +68,7 @@ put-text-spec =
     array-share-prefix-output
     slice-aggregate-listing
     listing-requires
-    enum-known-number
+    enum-known-no
     refusal-line-requires
     same-length
     returns

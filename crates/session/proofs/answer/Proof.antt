@@ -1,41 +1,34 @@
 -- `session::answer` meets its contract. Assumes nothing.
 use borrow.Author.Needs.{needs}
-use mathlib.Core.Path.{sym}
-use lib.Seq.{length-take-le}
-use native.Mathlib.Omega.{arith}
-use Rattle.lines.specs.Writing.{prints-whole, prints-within}
+use borrow.Author.Tests.{ne-eqb}
 use Rattle.session.proofs.answer.Statement.{statement}
 use Rattle.session.proofs.answer.Tie as tie
 
-line-room-requires : tie.Need-line-room-requires
-line-room-requires c κs = search needs
+run-sheet-requires : tie.Need-run-sheet-requires
+run-sheet-requires c κs = search needs
 
-slice-aggregate-run-call : tie.Need-slice-aggregate-run-call
-slice-aggregate-run-call c = search needs
+run-plate-requires : tie.Need-run-plate-requires
+run-plate-requires c κs = search needs
 
-run-call-requires : tie.Need-run-call-requires
-run-call-requires c κs = search needs
-
-array-share-prefix-line : tie.Need-array-share-prefix-line
-array-share-prefix-line c = prints-within (c .before .before .run-call .ensures .line)
-
-slice-aggregate-write-line : tie.Need-slice-aggregate-write-line
-slice-aggregate-write-line c = sym (length-take-le _ _ (array-share-prefix-line (c .before)))
-
-write-line-requires : tie.Need-write-line-requires
-write-line-requires c κs = prints-whole (omega (arith, c .before .before .before .before .before .line-room .ensures)) (c .before .before .before .run-call .ensures .line)
+answer-on-desk-requires : tie.Need-answer-on-desk-requires
+answer-on-desk-requires c κs = search needs
 
 returns : tie.Need-returns
-returns c = c .before .before .before .before .run-call .ensures .desk
+returns c = rw (c .before .match .keys1)
+
+returns-2 : tie.Need-returns-2
+returns-2 c = rw (c .before .match .keys2)
+
+returns-3 : tie.Need-returns-3
+returns-3 c = rw (ne-eqb _ _ (c .before .match .rest .0 .1), ne-eqb _ _ (c .before .match .rest .1)) (c .answer-on-desk .ensures)
 
 pub answer-spec : {M : Type 1} → statement M
 answer-spec =
     tie.close
     (tie.spec
-    line-room-requires
-    slice-aggregate-run-call
-    run-call-requires
-    array-share-prefix-line
-    slice-aggregate-write-line
-    write-line-requires
-    returns)
+    run-sheet-requires
+    run-plate-requires
+    answer-on-desk-requires
+    returns
+    returns-2
+    returns-3)

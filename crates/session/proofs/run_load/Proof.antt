@@ -24,10 +24,14 @@ same-length c = search needs
 returns : tie.Need-returns
 returns c =
     let a = c .before .before .before .before .before .before .before .before .before .before .args in
-    let e : c .before .before .before .before .before .before .load .result ≡ loaded (a .desk) (a .sheet .now) = loading-exactly _ _ _ _ _ .0 (c .before .before .before .before .before .before .load .ensures) .0 in
+    let e : c .before .before .before .before .before .before .load .result ≡ loaded (a .desk) (a .sheet .now) =
+    loading-exactly _ _ _ _ _ .0 (c .before .before .before .before .before .before .load .ensures) .0 in
     record {
       desk = ap (λ (r : LoadResult). r .desk) e;
-      line = subst (λ (r : LoadResult). Prints 31 (loadLine (r .answer) (r .desk)) (a .line .now) (c .before .before .load-line .result) (c .before .before .load-line .last .1 .1 .0)) e (c .before .before .load-line .ensures);
+      line =
+          subst (λ (r : LoadResult). Prints 31 (loadLine (r .answer) (r .desk)) (a .line .now)
+          (c .before .before .load-line .result) (c .before .before .load-line .last .1 .1 .0))
+          e (c .before .before .load-line .ensures);
     }
 
 pub run-load-spec : {M : Type 1} → statement M

@@ -21,10 +21,14 @@ same-length c = search needs
 returns : tie.Need-returns
 returns c =
     let a = c .before .before .before .before .before .before .before .before .args in
-    let e : c .before .before .before .before .before .mark .result ≡ markOf (a .desk) (a .list .now) = marking-exactly _ _ _ .0 (c .before .before .before .before .before .mark .ensures) in
+    let e : c .before .before .before .before .before .mark .result ≡ markOf (a .desk) (a .list .now) =
+    marking-exactly _ _ _ .0 (c .before .before .before .before .before .mark .ensures) in
     record {
       desk = ap (λ (r : MarkResult). r .desk) e;
-      line = subst (λ (r : MarkResult). Prints 31 (markLine (r .answer)) (a .line .now) (c .before .before .mark-line .result) (c .before .before .mark-line .last .1 .0)) e (c .before .before .mark-line .ensures);
+      line =
+          subst (λ (r : MarkResult).
+          Prints 31 (markLine (r .answer)) (a .line .now) (c .before .before .mark-line .result) (c .before .before .mark-line .last .1 .0))
+          e (c .before .before .mark-line .ensures);
     }
 
 pub run-mark-spec : {M : Type 1} → statement M

@@ -39,13 +39,21 @@ returns : tie.Need-returns Inv-loop μ-loop
 returns c = counts _ _ (search needs)
 
 add-done : tie.Need-add-done Inv-loop μ-loop
-add-done c = omega (arith, read-counts _ _ _ (c .before .before .before .before .before .before .read-some .ensures) (c .before .before .more .given .1) .0)
+add-done c =
+    omega (
+      arith,
+      read-counts _ _ _ (c .before .before .before .before .before .before .read-some .ensures) (c .before .before .more .given .1) .0,
+    )
 
 loop-less : tie.Need-loop-less Inv-loop μ-loop
 loop-less c = search needs
 
 loop-again : tie.Need-loop-again Inv-loop μ-loop
-loop-again c = omega (arith, read-counts _ _ _ (c .before .before .before .before .before .before .read-some .ensures) (c .before .before .more .given .1) .0)
+loop-again c =
+    omega (
+      arith,
+      read-counts _ _ _ (c .before .before .before .before .before .before .read-some .ensures) (c .before .before .more .given .1) .0,
+    )
 
 enum-told : tie.Need-enum-told Inv-loop μ-loop
 enum-told c = search needs

@@ -41,13 +41,15 @@ returns : tie.Need-returns Inv-loop μ-loop
 returns c = search needs
 
 add-done : tie.Need-add-done Inv-loop μ-loop
-add-done c = omega (arith, written-within _ _ _ (c .before .before .before .before .write-some .ensures) (c .before .before .more .given .1))
+add-done c =
+    omega (arith, written-within _ _ _ (c .before .before .before .before .write-some .ensures) (c .before .before .more .given .1))
 
 loop-less : tie.Need-loop-less Inv-loop μ-loop
 loop-less c = search needs
 
 loop-again : tie.Need-loop-again Inv-loop μ-loop
-loop-again c = omega (arith, written-within _ _ _ (c .before .before .before .before .write-some .ensures) (c .before .before .more .given .1))
+loop-again c =
+    omega (arith, written-within _ _ _ (c .before .before .before .before .write-some .ensures) (c .before .before .more .given .1))
 
 enum-told : tie.Need-enum-told Inv-loop μ-loop
 enum-told c = search needs

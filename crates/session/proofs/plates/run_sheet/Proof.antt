@@ -1,10 +1,10 @@
--- `conformance::run_sheet` meets its contract. Assumes nothing.
+-- `session::plates::run_sheet` meets its contract. Assumes nothing.
 use borrow.Author.Needs.{needs}
 use mathlib.Core.Path.{sym}
 use lib.Seq.{length-take-le}
 use Rattle.plate_maker.specs.MakingLaws.{made-within}
-use Rattle.conformance.proofs.run_sheet.Statement.{statement}
-use Rattle.conformance.proofs.run_sheet.Tie as tie
+use Rattle.session.proofs.plates.run_sheet.Statement.{statement}
+use Rattle.session.proofs.plates.run_sheet.Tie as tie
 
 slice-aggregate-make : tie.Need-slice-aggregate-make
 slice-aggregate-make c = search needs
@@ -27,8 +27,8 @@ slice-aggregate-print-made c = sym (length-take-le _ _ (array-share-prefix-outpu
 print-made-requires : tie.Need-print-made-requires
 print-made-requires c κs = search needs
 
-enum-known-number : tie.Need-enum-known-number
-enum-known-number c = search needs
+enum-known-no : tie.Need-enum-known-no
+enum-known-no c = search needs
 
 print-refused-sheet-requires : tie.Need-print-refused-sheet-requires
 print-refused-sheet-requires c κs = search needs
@@ -50,7 +50,7 @@ run-sheet-spec =
     array-share-prefix-output
     slice-aggregate-print-made
     print-made-requires
-    enum-known-number
+    enum-known-no
     print-refused-sheet-requires
     returns
     returns-2)

@@ -1,17 +1,20 @@
--- `conformance::main` meets its contract. Assumes nothing.
+-- `session::run` meets its contract. Assumes nothing.
 use borrow.Author.Needs.{needs}
 use Rattle.script.specs.Calls.{call-counts}
-use Rattle.conformance.proofs.main.Statement.{statement}
-use Rattle.conformance.proofs.main.Tie as tie
+use Rattle.session.proofs.run.Statement.{statement}
+use Rattle.session.proofs.run.Tie as tie
 
 abbrev Inv-loop : tie.InvT-loop
-Inv-loop buffer₀ desk₀ turns₀ t8 buffer desk turns = Unit {0}
+Inv-loop kinds first₀ second₀ desk₀ turns₀ t10 first second desk turns = Unit {0}
 
 abbrev μ-loop : tie.MeasureT-loop
-μ-loop buffer₀ desk₀ turns₀ t8 buffer desk turns = turns
+μ-loop kinds first₀ second₀ desk₀ turns₀ t10 first second desk turns = turns
 
 large-buffer-requires : tie.Need-large-buffer-requires Inv-loop μ-loop
 large-buffer-requires c κs = search needs
+
+large-buffer-requires-2 : tie.Need-large-buffer-requires-2 Inv-loop μ-loop
+large-buffer-requires-2 c κs = search needs
 
 new-requires : tie.Need-new-requires Inv-loop μ-loop
 new-requires c κs = search needs
@@ -28,14 +31,15 @@ enum-known-kind c = search needs
 cast-n : tie.Need-cast-n Inv-loop μ-loop
 cast-n c = search needs
 
-array-share-prefix-buffer : tie.Need-array-share-prefix-buffer Inv-loop μ-loop
-array-share-prefix-buffer c = call-counts _ _ _ _ _ (c .before .before .before .read-call .ensures) (c .before .kind .given .1) .0
+array-share-prefix-first : tie.Need-array-share-prefix-first Inv-loop μ-loop
+array-share-prefix-first c = call-counts _ _ _ _ _ _ _ (c .before .before .before .read-call .ensures) (c .before .kind .given .1) .0 .0
 
-slice-aggregate-run-call : tie.Need-slice-aggregate-run-call Inv-loop μ-loop
-slice-aggregate-run-call c = call-counts _ _ _ _ _ (c .before .before .before .before .read-call .ensures) (c .before .before .kind .given .1) .1
+slice-aggregate-answer : tie.Need-slice-aggregate-answer Inv-loop μ-loop
+slice-aggregate-answer c =
+    call-counts _ _ _ _ _ _ _ (c .before .before .before .before .read-call .ensures) (c .before .before .kind .given .1) .0 .1
 
-run-call-requires : tie.Need-run-call-requires Inv-loop μ-loop
-run-call-requires c κs = search needs
+answer-requires : tie.Need-answer-requires Inv-loop μ-loop
+answer-requires c κs = search needs
 
 returns : tie.Need-returns Inv-loop μ-loop
 returns c = search needs
@@ -76,21 +80,22 @@ loop-again c = search needs
 returns-5 : tie.Need-returns-5 Inv-loop μ-loop
 returns-5 c = search needs
 
-pub main-spec : {M : Type 1} → statement M
-main-spec =
+pub run-spec : {M : Type 1} → statement M
+run-spec =
     tie.close
     (tie.spec
     Inv-loop
     μ-loop
     large-buffer-requires
+    large-buffer-requires-2
     new-requires
     loop-holds
     read-call-requires
     enum-known-kind
     cast-n
-    array-share-prefix-buffer
-    slice-aggregate-run-call
-    run-call-requires
+    array-share-prefix-first
+    slice-aggregate-answer
+    answer-requires
     returns
     enum-told
     slice-aggregate-write-output

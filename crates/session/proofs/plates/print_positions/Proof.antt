@@ -1,10 +1,10 @@
--- `conformance::print_positions` meets its contract. Assumes nothing.
+-- `session::plates::print_positions` meets its contract. Assumes nothing.
 use borrow.Author.Needs.{needs}
 use Prim.Native.Nat.{_-_, _≤_}
 use lib.ListN.{length}
 use native.Mathlib.Omega.{arith}
-use Rattle.conformance.proofs.print_positions.Statement.{statement}
-use Rattle.conformance.proofs.print_positions.Tie as tie
+use Rattle.session.proofs.plates.print_positions.Statement.{statement}
+use Rattle.session.proofs.plates.print_positions.Tie as tie
 
 abbrev Inv-loop : tie.InvT-loop
 Inv-loop so-far list printed₀ k₀ printed k = k ≤ length list

@@ -1,0 +1,90 @@
+// The calls without a desk, and their lines on standard output: a sheet made into a plate, and a plate read. A line has what document 01
+// fixes and nothing else.
+use format::PLATE_ROOM;
+use format::WORKSPACE_CELLS;
+use plate_maker::MakeAnswer;
+use plate_reader::PlateAnswer;
+use plate_reader::inside_count;
+use streams::write_output;
+
+// PIECES OF A LINE. Each is written if all before it was, and says whether it was.
+
+fn print_word(so_far: bool, word: &[u8]) -> bool {
+    if !so_far {
+        return false;
+    }
+    write_output(word) == word.len()
+}
+
+// A number after a space.
+fn print_number(so_far: bool, number: u64) -> bool {
+    let mut text = [0u8; 20];
+    let n = io::decimal(number, &mut text);
+    let spaced = print_word(so_far, b" ");
+    print_word(spaced, &text[..n])
+}
+
+fn print_refusal(so_far: bool, no: u8) -> bool {
+    let word = print_word(so_far, b"refused");
+    print_number(word, no as u64)
+}
+
+fn end_line(so_far: bool) -> bool {
+    print_word(so_far, b"\n")
+}
+
+// SHEETS AND PLATES
+
+fn print_validity(so_far: bool, plate: &[u8]) -> bool {
+    match plate_reader::read_plate(plate) {
+        PlateAnswer::Accepted(_) => print_word(so_far, b" valid"),
+        PlateAnswer::Refused(_) => print_word(so_far, b" invalid"),
+    }
+}
+
+// The line of a made plate.
+fn print_made(plate: &[u8]) -> bool {
+    let word = print_word(true, b"sheet");
+    let points = print_number(word, format::point_count(plate) as u64);
+    let inside = print_number(points, inside_count(plate) as u64);
+    end_line(print_validity(inside, plate))
+}
+
+fn print_refused_sheet(no: u8) -> bool {
+    let word = print_word(true, b"sheet ");
+    end_line(print_refusal(word, no))
+}
+
+// A sheet, made into a plate.
+pub(crate) fn run_sheet(sheet: &[u8]) -> bool {
+    let mut output = [0u8; PLATE_ROOM];
+    let mut workspace = [0u16; WORKSPACE_CELLS];
+    match plate_maker::make(sheet, &mut output, &mut workspace) {
+        MakeAnswer::Made(written) => print_made(&output[..written]),
+        MakeAnswer::Refused(no) => print_refused_sheet(no),
+    }
+}
+
+fn print_positions(so_far: bool, list: &[u8]) -> bool {
+    let mut printed = so_far;
+    let mut k = 0;
+    while k < list.len() {
+        printed = print_number(printed, list[k] as u64);
+        k += 1;
+    }
+    printed
+}
+
+fn print_plate_answer(so_far: bool, answer: PlateAnswer) -> bool {
+    match answer {
+        PlateAnswer::Accepted(_) => print_word(so_far, b"accepted"),
+        PlateAnswer::Refused(no) => print_refusal(so_far, no),
+    }
+}
+
+// A plate, read: the answer, and the positions that are handed back. Of a refused plate that is its empty start, so none.
+pub(crate) fn run_plate(plate: &[u8]) -> bool {
+    let word = print_word(true, b"plate ");
+    let answered = print_plate_answer(word, plate_reader::read_plate(plate));
+    end_line(print_positions(answered, plate_reader::inside_list(plate)))
+}
