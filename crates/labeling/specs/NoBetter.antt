@@ -88,7 +88,7 @@ module _ {H : Heights} (L : Sorted H) {S : ℕ → Bool} (ok : Free H S) where
           go (reach-older H a p q (rw e at m)));
     }
 
-    -- An inside point is good.
+    -- A point that the choice has inside passes the test.
     may-be-in : S (H .atRank t) ≡ true → MayBeInside H t a b q
     may-be-in e =
         let p = H .atRank t in

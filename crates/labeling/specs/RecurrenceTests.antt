@@ -111,7 +111,7 @@ module _ (H : Heights) where
   unfolding bars
   dec-bars t a b i j = dec-and (dec-lt _ _) (dec-and (dec-lt _ _) (dec-and (dec-lt _ _) (dec-overlaps i j)))
 
-  -- `good` tests that the point of rank t may be inside.
+  -- `mayBeInside` tests that the point of rank t may be inside.
   pub dec-may-be-inside : (t a b q : ℕ) → Decides (mayBeInside H t a b q) (MayBeInside H t a b q)
   unfolding mayBeInside
   dec-may-be-inside t a b q =
@@ -128,7 +128,7 @@ module _ (H : Heights) where
       (dec-and (dec-true _) (dec-and (dec-if-le (H .n) b (dec-le _ _)) (dec-and (dec-if-pos q (dec-not (dec-overlaps p q)))
       (dec-every (λ j. not (bars H t a b p j)) _ (H .n) (λ j. dec-not (dec-bars t a b p j))))))
 
-  -- `clear` tests that p isn't in the row of b, if b is a point.
+  -- `rowsDiffer` tests that p isn't in the row of b, if b is a point.
   pub dec-rows-differ : (p b : ℕ) → Decides (rowsDiffer H p b) (b ≤ H .n → H .row p ≡ H .row b → ⊥)
   unfolding rowsDiffer
   dec-rows-differ p b = dec-if-le (H .n) b (dec-not (dec-eq _ _))
@@ -203,7 +203,7 @@ pub record CanOut (H : Heights) (t a b q : ℕ) : Type 0 where
   pub low : 1 ≤ value H t a (H .atRank t) q
   pub high : 1 ≤ value H t (H .atRank t) b (reach H a (H .atRank t) q)
 
--- The point of rank t can be inside: it is good, and the others have a choice.
+-- The point of rank t can be inside: it may be, and the others have a choice.
 pub record CanIn (H : Heights) (t a b q : ℕ) : Type 0 where
   pub may-be-inside : mayBeInside H t a b q ≡ true
   pub rest : 1 ≤ value H t a b q

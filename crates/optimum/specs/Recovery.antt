@@ -21,7 +21,7 @@ use Rattle.optimum.specs.Table.{flaggedTaken, Taking, Flagged, FlaggedDo
 use Rattle.optimum.specs.Steps.{opened, ready-low, ready-high, open-below-low, open-below-high, open-below-n, fitting-zero}
 use Rattle.optimum.specs.declared.table.Slab.{Slab}
 
--- THE CHOICE AND ITS MARKS
+-- THE CHOICE AND ITS FLAGS
 
 -- A recovered choice's points are between the ends.
 recovered-range : (H : Heights) (t a b q i : ℕ) → recovered H t a b q i ≡ true → Between a i b

@@ -1,4 +1,4 @@
--- A slab is a slab (a, b, q) of the recurrence: its lower end is a, its upper end b, and q the point whose label reaches over its lower
+-- A slab (a, b, q) of the recurrence: its lower end is a, its upper end b, and q the point whose label reaches over its lower
 -- end, or 0. The recurrence's functions of a slab. Assumes nothing.
 use mathlib.Core.Path.{_≡_}
 use mathlib.Core.Bool.{Bool, true, _||_}

@@ -83,7 +83,7 @@ module _ {s : List ℕ} {x : Slab} (r : Ready s x) where
   pub ends-small : (x .lower < fieldCells) × (x .upper < fieldCells)
   ends-small = (omega (arith, r .proper .order, r .proper .upper, r .packed .few), omega (arith, r .proper .upper, r .packed .few))
 
-  -- Its limit is at most n.
+  -- Its points are open below n at most.
   pub open-below-n : openBelow (heightsOf s) x ≤ heightsOf s .n
   unfolding openBelow
   open-below-n =
@@ -117,7 +117,7 @@ module _ {s : List ℕ} {x : Slab} (r : Ready s x) where
 
 -- AN OPEN POINT
 
--- The point of a rank below the limit, if it is between.
+-- The point of a rank below which the points are open, if it is between.
 pub opened : {s : List ℕ} {x : Slab} → Ready s x → (t p : ℕ) → t < openBelow (heightsOf s) x → p ≡ heightsOf s .atRank t
     → slabHas x p ≡ true
     → Opened s x p × (heightsOf s .rank p ≡ t)
