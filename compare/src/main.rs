@@ -1,7 +1,7 @@
 //! Compares the proved library with the reference, call by call, and what the programs print_plate and
 //! desk_session print with the reference's texts: document 01's worked examples that aren't marked
-//! (P), and thousands of made-up cases, from a fixed seed and then from a fresh one. It ends at the
-//! first difference, with the bytes in hand, the seeds, and exit status 1.
+//! (P), and thousands of made-up cases, from a fixed seed and, beside them, from a fresh one. A
+//! difference ends its seed's cases, and is shown with the bytes in hand, the seeds, and exit status 1.
 
 #![deny(unsafe_code)]
 
@@ -25,6 +25,7 @@ use side_by_side::Compared;
 use std::io::{self, Read, Write};
 use std::panic::{catch_unwind, AssertUnwindSafe};
 use std::process::ExitCode;
+use std::thread;
 use std::time::{Instant, SystemTime, UNIX_EPOCH};
 
 const USAGE: &str = "usage:
@@ -83,12 +84,11 @@ fn run_all(seed: u64, long: bool) -> Result<(), String> {
     };
     println!(
         "the proved library and the programs beside the reference: \
-         the fixed seed {FIXED_SEED}, then seed {seed}"
+         the fixed seed {FIXED_SEED}, and seed {seed}"
     );
     let mut report = Report::default();
-    let done = run_document(&mut report)
-        .and_then(|()| run_parts(&mut report, FIXED_SEED, times))
-        .and_then(|()| run_parts(&mut report, seed, times));
+    let done =
+        run_document(&mut report).and_then(|()| run_seeds(&mut report, [FIXED_SEED, seed], times));
     done.map_err(|message| {
         let again = format!("the whole run again with: compare/run {arguments}");
         format!("{message}\nseeds {FIXED_SEED} and {seed}; {again}")
@@ -108,9 +108,24 @@ fn run_document(report: &mut Report) -> Compared {
     Ok(())
 }
 
-/// The made-up cases of a seed. What must be seen must be seen in them alone.
-fn run_parts(total: &mut Report, seed: u64, times: u64) -> Compared {
-    println!("seed {seed}");
+/// The made-up cases of both seeds, side by side.
+fn run_seeds(total: &mut Report, seeds: [u64; 2], times: u64) -> Compared {
+    let ended = thread::scope(|scope| {
+        let running = seeds.map(|seed| scope.spawn(move || run_parts(seed, times)));
+        running.map(|run| run.join())
+    });
+    for run in ended {
+        let (report, said) = run.map_err(|_| "compare: FAILED by a panic".to_string())??;
+        print!("{said}");
+        total.add(&report);
+    }
+    Ok(())
+}
+
+/// The made-up cases of a seed: what was seen in them, and a line for each part. What must be seen
+/// must be seen in them alone.
+fn run_parts(seed: u64, times: u64) -> Result<(Report, String), String> {
+    let mut said = format!("seed {seed}\n");
     let mut report = Report::default();
     for (part, index) in PARTS.iter().zip(1..) {
         // Each part has its own seeds, whatever the other parts use.
@@ -120,12 +135,11 @@ fn run_parts(total: &mut Report, seed: u64, times: u64) -> Compared {
             run_seed(&mut report, part, seeds.next_number())?;
         }
         let time = before.elapsed();
-        println!("  {:<20}{cases:>9} cases {time:>8.1?}", part.name);
+        said += &format!("  {:<20}{cases:>9} cases {time:>8.1?}\n", part.name);
     }
-    total.add(&report);
     let missing = report.missing();
     match missing.is_empty() {
-        true => Ok(()),
+        true => Ok((report, said)),
         false => Err(format!("compare: FAILED\n{}", missing.join("\n"))),
     }
 }
