@@ -1,15 +1,17 @@
--- A call of a script, and its line. Assumes nothing.
-use mathlib.Core.Path.{_≡_}
-use mathlib.Core.Bool.{cond}
+-- A call of a script, and its line; and the desk that a script leaves. Assumes nothing.
+use mathlib.Core.Path.{_≡_, ap}
+use mathlib.Core.Bool.{Bool, true, false, cond}
 use mathlib.Core.List.{List}
 use Prim.Native.Nat.{ℕ}
 use lib.Dec.{eqb}
 use lib.ListN.{replicate}
 use Rattle.format.specs.Sizes.{workspaceCells}
-use Rattle.desk.specs.Desk.{loadOf, markOf}
+use Rattle.desk.specs.Desk.{fresh, loadOf, markOf}
+use Rattle.desk.specs.Calls.{load, mark, Calls, noCalls, _andThen_, deskAfter}
 use Rattle.desk.specs.declared.Desk.{Desk}
 use Rattle.desk.specs.declared.LoadResult.{LoadResult}
 use Rattle.lines.specs.DeskLines.{loadLine, markLine}
+use Rattle.lines.specs.Rooms.{lineRoom}
 use Rattle.lines.specs.Writing.{Prints}
 use Rattle.session.specs.declared.Ran.{Ran}
 
@@ -41,4 +43,30 @@ deskAfterCall d kind part = cond (eqb kind 11) d (cond (eqb kind 12) d (deskCall
 -- A call ran that comes to x: the desk after it, and its line in the buffer o.
 pub record Runs (x : DeskCall) (o : List ℕ) (r : Ran) (o′ : List ℕ) : Type 0 where
   pub desk : r .desk ≡ x .desk
-  pub line : Prints 31 (x .text) o (r .length) o′
+  pub line : Prints lineRoom (x .text) o (r .length) o′
+
+-- A desk value that "loads and marks from a fresh desk give": demand 3 speaks of it.
+pub record Reached (d : Desk) : Type 0 where
+  pub calls : Calls
+  pub desk : d ≡ deskAfter calls
+
+-- A fresh desk is one,
+pub reached-fresh : (d : Desk) → d ≡ fresh → Reached d
+unfolding deskAfter
+reached-fresh d e = record { calls = noCalls; desk = e }
+
+-- and so is the desk after a call.
+pub reached-after : (d d′ : Desk) (kind : ℕ) (part : List ℕ) → Reached d → d′ ≡ deskAfterCall d kind part → Reached d′
+unfolding deskAfter
+reached-after d d′ kind part r q = rw q (either (eqb kind 11) r (either (eqb kind 12) r (on-desk (eqb kind 1))))
+  where
+    either : (b : Bool) {x y : Desk} → Reached x → Reached y → Reached (cond b x y)
+    either true x y = x
+    either false x y = y
+
+    on-desk : (b : Bool) → Reached (cond b (loadCall d part) (markCall d part) .desk)
+    on-desk true = record {
+      calls = r .calls andThen load part (replicate workspaceCells 0);
+      desk = ap (λ e. loaded e part .desk) (r .desk);
+    }
+    on-desk false = record { calls = r .calls andThen mark part; desk = ap (λ e. markOf e part .desk) (r .desk) }

@@ -1,6 +1,6 @@
 // Runs a script, for the programs desk_session and conformance: its calls, each with a line on standard output.
 ghost use mathlib.Core.Path.{_≡_};
-ghost use Rattle.session.specs.Session.{Runs, deskAfterCall, deskCall, loadCall, markCall};
+ghost use Rattle.session.specs.Session.{Runs, Reached, deskAfterCall, deskCall, loadCall, markCall};
 use desk::Desk;
 use format::WORKSPACE_CELLS;
 use lines::LINE_ROOM;
@@ -108,8 +108,11 @@ fn answer(desk: Desk, kind: u8, part: &[u8]) -> Answered
 
 // Runs the script on standard input on a fresh desk and writes a line for each call. At a call that is cut short, or of none of these
 // kinds, it writes `bad call` and stops. It stops too where a read or a write fails, whose line is on standard error. No kind has a second
-// part, so that buffer stays as it is. The count of turns is there so that the loop ends for certain: no script has as many calls.
-pub fn run(kinds: Kinds) {
+// part, so that buffer stays as it is. The count of turns is there so that the loop ends for certain: no script has as many calls. The desk
+// that the calls leave is handed back: which calls they are, no contract can say.
+pub fn run(kinds: Kinds) -> Desk
+    ensures { λ r. ⌜ Reached r ⌝ }
+{
     let mut first = io::large_buffer();
     let mut second = io::large_buffer();
     let mut desk = Desk::new();
@@ -123,18 +126,19 @@ pub fn run(kinds: Kinds) {
             } => {
                 let n = length as usize;
                 let answered = answer(desk, kind, &first[..n]);
-                if !answered.written {
-                    return;
-                }
                 desk = answered.desk;
+                if !answered.written {
+                    return desk;
+                }
             }
             Call::Bad => {
                 write_output(b"bad call\n");
-                return;
+                return desk;
             }
-            Call::End => return,
-            Call::Failed => return,
+            Call::End => return desk,
+            Call::Failed => return desk,
         }
         turns -= 1;
     }
+    desk
 }

@@ -1,11 +1,12 @@
 -- `session::run` meets its contract. Assumes nothing.
 use borrow.Author.Needs.{needs}
 use Rattle.script.specs.Calls.{call-counts}
+use Rattle.session.specs.Session.{Reached, reached-fresh, reached-after}
 use Rattle.session.proofs.run.Statement.{statement}
 use Rattle.session.proofs.run.Tie as tie
 
 abbrev Inv-loop : tie.InvT-loop
-Inv-loop kinds first₀ second₀ desk₀ turns₀ t10 first second desk turns = Unit {0}
+Inv-loop kinds first₀ second₀ desk₀ turns₀ t10 first second desk turns = Reached desk
 
 abbrev μ-loop : tie.MeasureT-loop
 μ-loop kinds first₀ second₀ desk₀ turns₀ t10 first second desk turns = turns
@@ -20,7 +21,7 @@ new-requires : tie.Need-new-requires Inv-loop μ-loop
 new-requires c κs = search needs
 
 loop-holds : tie.Need-loop-holds Inv-loop μ-loop
-loop-holds c = search needs
+loop-holds c = search (needs, reached-fresh)
 
 read-call-requires : tie.Need-read-call-requires Inv-loop μ-loop
 read-call-requires c κs = search needs
@@ -42,7 +43,7 @@ answer-requires : tie.Need-answer-requires Inv-loop μ-loop
 answer-requires c κs = search needs
 
 returns : tie.Need-returns Inv-loop μ-loop
-returns c = search needs
+returns c = search (needs, reached-after)
 
 enum-told : tie.Need-enum-told Inv-loop μ-loop
 enum-told c = search needs
@@ -75,7 +76,7 @@ loop-less : tie.Need-loop-less Inv-loop μ-loop
 loop-less c = search needs
 
 loop-again : tie.Need-loop-again Inv-loop μ-loop
-loop-again c = search needs
+loop-again c = search (needs, reached-after)
 
 returns-5 : tie.Need-returns-5 Inv-loop μ-loop
 returns-5 c = search needs
