@@ -34,13 +34,13 @@ pub enum Verdict {
         /// The best count less the list's count.
         shortfall: usize,
     },
-    /// Two points share a pixel.
+    /// Two points share a pixel, or an inside label leaves the map.
     Clash {
-        /// The lesser position.
+        /// The lesser position, or the position whose label leaves the map.
         first: usize,
-        /// The greater position.
+        /// The greater position, or the same one if its label leaves the map.
         second: usize,
-        /// What met.
+        /// What the clash is.
         kind: ClashKind,
     },
 }

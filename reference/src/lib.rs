@@ -1,7 +1,8 @@
-//! A reference for call-sign plates, written from document 01 alone.
+//! A reference for call-sign plates, written from documents 01 and 02 (a) alone.
 //!
 //! Whether a choice is valid is decided by marking pixels: every point's pixels are written down
-//! as runs along rows, and two points clash if their runs share a pixel.
+//! as runs along rows. Two points clash if their runs share a pixel, and an inside point clashes
+//! with itself if its runs have a pixel off the map.
 //!
 //! Whatever bytes a call is given, it ends with an answer. A panic is a shortfall of the reference
 //! itself: it is loud, so that nothing is compared with an answer that isn't one.

@@ -1,4 +1,5 @@
-//! The pixels that points mark, and whether two points mark one pixel.
+//! The pixels that points mark, whether two points mark one pixel, and whether a label leaves the
+//! map.
 
 use crate::margin::margin_columns;
 use crate::sheet::{Choice, Sheet};
@@ -15,13 +16,15 @@ pub struct Run {
     pub to: i32,
 }
 
-/// What met in a clash.
+/// What a clash is.
 #[derive(Clone, Copy, Debug, PartialEq, Eq)]
 pub enum ClashKind {
-    /// Two labels on the map.
+    /// Two inside labels meet.
     Labels,
-    /// A label on the map and a leader.
+    /// An inside label meets a leader.
     LabelAndLeader,
+    /// An inside label leaves the map: a clash of a position with itself (document 02 (a)).
+    Overhang,
 }
 
 /// The runs of an inside point: its label.
@@ -91,6 +94,20 @@ pub fn share_a_pixel(a: &[Run], b: &[Run]) -> bool {
     false
 }
 
+/// Is a pixel of these runs off the map? A run is in one row, so all its pixels are on the map if
+/// its leftmost and its rightmost pixel are.
+pub fn leaves_the_map(sheet: &Sheet, runs: &[Run]) -> bool {
+    runs.iter()
+        .any(|run| !on_the_map(sheet, run.from, run.row) || !on_the_map(sheet, run.to, run.row))
+}
+
+/// Is the pixel in this column and row on the map?
+fn on_the_map(sheet: &Sheet, column: i32, row: i32) -> bool {
+    let columns = 0..i32::from(sheet.map_width());
+    let rows = 0..i32::from(sheet.map_height());
+    columns.contains(&column) && rows.contains(&row)
+}
+
 /// By position: all the pixels that each point marks under a choice, margin included.
 pub fn marked_runs(sheet: &Sheet, choice: Choice) -> Vec<Vec<Run>> {
     margin_columns(sheet, choice)
@@ -103,19 +120,25 @@ pub fn marked_runs(sheet: &Sheet, choice: Choice) -> Vec<Vec<Run>> {
         .collect()
 }
 
-/// Is the choice valid, that is, is no pixel marked by two points?
+/// Is the choice valid, that is, is no pixel marked by two points and does no inside label leave
+/// the map?
 pub fn valid(sheet: &Sheet, choice: Choice) -> bool {
     first_clash(sheet, choice).is_none()
 }
 
-/// The pair of points sharing a pixel with the smallest first position, then the smallest second,
-/// first below second, and what met there.
+/// The clash with the smallest first position, then the smallest second, and its kind. Two points
+/// that share a pixel clash, first below second. An inside point whose label leaves the map clashes
+/// with itself, first and second being equal; so this comes ahead of its clashes with later points.
 ///
 /// Two outside points never share a pixel (the randomized tests look at this too), so a clash
-/// with an outside point in it is always one of a label and a leader.
+/// with an outside point in it is always one of a label and a leader. Leaders and outer labels may
+/// leave the map.
 pub fn first_clash(sheet: &Sheet, choice: Choice) -> Option<(usize, usize, ClashKind)> {
     let marked = marked_runs(sheet, choice);
     for first in 0..marked.len() {
+        if choice.contains(first) && leaves_the_map(sheet, &marked[first]) {
+            return Some((first, first, ClashKind::Overhang));
+        }
         for second in first + 1..marked.len() {
             if share_a_pixel(&marked[first], &marked[second]) {
                 let kind = if choice.contains(first) && choice.contains(second) {

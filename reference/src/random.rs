@@ -1,5 +1,7 @@
 //! A small seeded generator and random sheets, for tests and timings.
 
+use crate::sheet::Sheet;
+
 /// A seeded generator of numbers (the splitmix64 steps).
 pub struct Random(u64);
 
@@ -86,5 +88,21 @@ pub fn falling_sheet(
         let shifted = (on_line.saturating_add(random.below(noise))).saturating_sub(noise / 2);
         points.push((call, shifted.min(map.0.saturating_sub(1)), row));
     }
+    sheet_bytes(map, label, &points)
+}
+
+/// The same sheet's bytes on a map that reaches further right and up, so that every label fits on
+/// it. Its sides are longer by a label side less 1, and nothing checks that this is allowed.
+pub fn with_room(sheet: &Sheet) -> Vec<u8> {
+    let label = (sheet.label_width(), sheet.label_height());
+    let map = (
+        sheet.map_width() + label.0 - 1,
+        sheet.map_height() + label.1 - 1,
+    );
+    let points: Vec<_> = sheet
+        .points()
+        .iter()
+        .map(|point| (point.call, point.column, point.row))
+        .collect();
     sheet_bytes(map, label, &points)
 }

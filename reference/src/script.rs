@@ -88,11 +88,12 @@ pub fn mark_line(answer: Result<Marked, u8>) -> String {
             second,
             kind,
         } => {
-            let met = match kind {
+            let word = match kind {
                 ClashKind::Labels => "labels",
                 ClashKind::LabelAndLeader => "leader",
+                ClashKind::Overhang => "overhang",
             };
-            format!("{number} clash {first} {second} {met}")
+            format!("{number} clash {first} {second} {word}")
         }
     }
 }

@@ -2,18 +2,19 @@
 //!
 //! Small sheets are solved by trying every choice. Larger ones are solved by an exact search over
 //! what pixels force: if point a in one state shares a pixel with point b in another state, then
-//! the one state of a forces the opposite state of b. The choice found is marked in full at the
-//! end, margin included.
+//! the one state of a forces the opposite state of b. A point whose label leaves the map can't be
+//! inside: its inside state forces its own outside state. The choice found is marked in full at
+//! the end, margin included.
 //!
-//! Only pixels of the map (columns from 0 on) are used for forcing. They depend on a point's state
-//! alone: an outside point's outer label has negative columns only, and its leader covers column 0
-//! to the point's column whatever its margin column is. What is found that way is a necessary
-//! condition for a valid choice, so no valid choice has more points inside than the choice that
-//! the search finds; when the marking in full finds that choice valid, it is a best one.
+//! Only pixels from column 0 on are used for forcing. They depend on a point's state alone: an
+//! outside point's outer label has negative columns only, and its leader covers column 0 to the
+//! point's column whatever its margin column is. What is found that way is a necessary condition
+//! for a valid choice, so no valid choice has more points inside than the choice that the search
+//! finds; when the marking in full finds that choice valid, it is a best one.
 
 use std::collections::HashMap;
 
-use crate::pixels::{inside_runs, map_part, outside_runs, share_a_pixel, valid};
+use crate::pixels::{inside_runs, leaves_the_map, map_part, outside_runs, share_a_pixel, valid};
 use crate::sheet::{Choice, Sheet};
 
 /// Up to this many points every choice is tried.
@@ -139,8 +140,8 @@ impl States {
 /// What each state of each point forces, directly and over any number of steps, itself included.
 ///
 /// Direct forcing goes both ways round: if a's state s forbids b's state t, then b's state t
-/// forbids a's state s. So a state that forces two opposite states of some point forces the
-/// opposite of itself.
+/// forbids a's state s. A label that leaves the map is an inside state that forbids itself. So a
+/// state that forces two opposite states of some point forces the opposite of itself.
 struct Table {
     /// By position and state: the states forced in one step.
     direct: Vec<[States; 2]>,
@@ -149,7 +150,8 @@ struct Table {
 }
 
 impl Table {
-    /// Marks the map's pixels for each point in each state and compares all pairs.
+    /// Marks the pixels from column 0 on for each point in each state, looks for labels that leave
+    /// the map and compares all pairs.
     fn of(sheet: &Sheet) -> Table {
         let n = sheet.points().len();
         let runs: Vec<_> = (0..n)
@@ -162,6 +164,9 @@ impl Table {
             .collect();
         let mut direct = vec![[States::default(); 2]; n];
         for a in 0..n {
+            if leaves_the_map(sheet, &runs[a][INSIDE]) {
+                direct[a][INSIDE] = direct[a][INSIDE].with(States::of(a, OUTSIDE));
+            }
             for b in a + 1..n {
                 for s in [OUTSIDE, INSIDE] {
                     for t in [OUTSIDE, INSIDE] {

@@ -19,6 +19,8 @@ pub struct Point {
 #[derive(Clone, Debug, PartialEq, Eq)]
 pub struct Sheet {
     bytes: Vec<u8>,
+    map_width: u16,
+    map_height: u16,
     label_width: u16,
     label_height: u16,
     points: Vec<Point>,
@@ -61,6 +63,16 @@ impl Sheet {
     /// The sheet's own bytes.
     pub fn bytes(&self) -> &[u8] {
         &self.bytes
+    }
+
+    /// Map width: how many columns the map has.
+    pub fn map_width(&self) -> u16 {
+        self.map_width
+    }
+
+    /// Map height: how many rows the map has.
+    pub fn map_height(&self) -> u16 {
+        self.map_height
     }
 
     /// Label width w.
@@ -148,6 +160,8 @@ fn read(bytes: &[u8], more_may_follow: bool) -> Result<Sheet, u8> {
     }
     Ok(Sheet {
         bytes: bytes[..length].to_vec(),
+        map_width,
+        map_height,
         label_width,
         label_height,
         points,

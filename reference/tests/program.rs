@@ -23,6 +23,11 @@ fn p1() -> Vec<u8> {
     sheet_bytes((20, 10), (4, 2), &[(17, 2, 3), (18, 4, 4), (19, 10, 7)])
 }
 
+/// A point with P1's map and label that can only be outside.
+fn overhanging() -> Vec<u8> {
+    sheet_bytes((20, 10), (4, 2), &[(17, 18, 2)])
+}
+
 /// A call of a script.
 fn call(kind: u8, part: &[u8]) -> Vec<u8> {
     let mut bytes = vec![kind];
@@ -40,6 +45,9 @@ fn check_best_and_list() {
     assert_eq!(run("best", &[]), "refused 11\n");
     assert_eq!(run("list", &p1()), "plate 3 2 1\n17 out 0\n18 in\n19 in\n");
     assert_eq!(run("list", &p1()[..27]), "refused 16\n");
+    assert_eq!(run("check", &overhanging()), "accepted\n");
+    assert_eq!(run("best", &overhanging()), "0\n");
+    assert_eq!(run("list", &overhanging()), "plate 1 0 1\n17 out 0\n");
 }
 
 #[test]
@@ -49,6 +57,8 @@ fn read() {
     let plate = [&p1()[..], &[0, 3, 2, 0, 1, 0, 0, 1]].concat();
     assert_eq!(run("read", &plate), "accepted 0\n");
     assert_eq!(run("read", &p1()), "refused 41\n");
+    let plate = [&overhanging()[..], &[1, 0, 0]].concat();
+    assert_eq!(run("read", &plate), "refused 44\n");
 }
 
 #[test]
@@ -64,10 +74,14 @@ fn desk() {
         call(2, &[0]),
         call(2, &[]),
         call(2, &[2, 0, 1]),
+        call(1, &overhanging()),
+        call(2, &[1, 0]),
+        call(2, &[0]),
     ]
     .concat();
     let lines = "refused 51\nrefused 16\nrefused 12\nloaded 3 2\n1 valid 2 0\n2 clash 0 1 leader\n\
-                 3 valid 0 2\nrefused 31\n4 clash 0 1 labels\n";
+                 3 valid 0 2\nrefused 31\n4 clash 0 1 labels\nloaded 1 0\n\
+                 5 clash 0 0 overhang\n6 valid 0 0\n";
     assert_eq!(run("desk", &script), lines);
     let bad = format!("{lines}bad call\n");
     // Another kind byte, and calls cut short at each place.

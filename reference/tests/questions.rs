@@ -233,6 +233,22 @@ fn question_44_validity() {
 }
 
 #[test]
+fn question_44_overhang() {
+    // The first's label leaves the map at the right; the second is far above it.
+    let sheet = sheet_bytes((20, 10), (4, 2), &[(17, 18, 2), (18, 3, 6)]);
+    assert_eq!(check_sheet(&sheet), 0);
+    let number = |sections: &[u8]| read_plate(&[&sheet[..], sections].concat()).number;
+    assert_eq!(number(&[1, 0, 1, 1, 0]), 44);
+    assert_eq!(number(&[2, 0, 1, 0]), 44);
+    assert_eq!(number(&[1, 1, 1, 0, 0]), 0);
+    assert_eq!(number(&[0, 2, 1, 0, 0, 0]), 0);
+    // Asked after the sections, the positions and the pairs.
+    assert_eq!(number(&[1, 0, 0]), 41);
+    assert_eq!(number(&[2, 0, 0, 0]), 42);
+    assert_eq!(number(&[1, 0, 1, 1, 1]), 43);
+}
+
+#[test]
 fn made_plates_are_read_back() {
     let sheet = Sheet::read(&p1()).unwrap();
     for bits in 0..8 {

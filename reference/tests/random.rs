@@ -3,12 +3,20 @@
 use std::collections::HashSet;
 
 use reference::pixels::{marked_runs, share_a_pixel};
-use reference::random::{falling_sheet, random_sheet, Random};
+use reference::random::{falling_sheet, random_sheet, with_room, Random};
 use reference::search::{search_best, try_all};
 use reference::{
     best_choice, best_count, check_sheet, first_clash, inside_positions, margin_columns,
     plate_bytes, read_plate, run_script, valid, Choice, ClashKind, Desk, Sheet,
 };
+
+/// The sheet as it is, or on a map with room for every label: one as often as the other.
+fn some_with_room(random: &mut Random, sheet: Sheet) -> Sheet {
+    if random.below(2) == 0 {
+        return sheet;
+    }
+    Sheet::read(&with_room(&sheet)).unwrap()
+}
 
 /// A small random sheet on which labels and leaders often meet.
 fn small_dense(random: &mut Random, most_points: u16, side: u16, most_label: u16) -> Sheet {
@@ -21,7 +29,7 @@ fn small_dense(random: &mut Random, most_points: u16, side: u16, most_label: u16
     } else {
         random_sheet(random, map, label, n)
     };
-    Sheet::read(&bytes).unwrap()
+    some_with_room(random, Sheet::read(&bytes).unwrap())
 }
 
 /// The pixels that a point marks, one by one and in document 01's words.
@@ -56,6 +64,15 @@ fn pixels_of(sheet: &Sheet, choice: Choice, position: usize) -> HashSet<(i32, i3
     pixels
 }
 
+/// Is one of these pixels off the map?
+fn one_is_off_the_map(sheet: &Sheet, pixels: &HashSet<(i32, i32)>) -> bool {
+    let columns = 0..i32::from(sheet.map_width());
+    let rows = 0..i32::from(sheet.map_height());
+    pixels
+        .iter()
+        .any(|(column, row)| !columns.contains(column) || !rows.contains(row))
+}
+
 /// The first clash by sets of pixels.
 fn clash_by_pixels(sheet: &Sheet, choice: Choice) -> Option<(usize, usize, ClashKind)> {
     let n = sheet.points().len();
@@ -63,6 +80,9 @@ fn clash_by_pixels(sheet: &Sheet, choice: Choice) -> Option<(usize, usize, Clash
         .map(|position| pixels_of(sheet, choice, position))
         .collect();
     for first in 0..n {
+        if choice.contains(first) && one_is_off_the_map(sheet, &pixels[first]) {
+            return Some((first, first, ClashKind::Overhang));
+        }
         for second in first + 1..n {
             if !pixels[first].is_disjoint(&pixels[second]) {
                 let kind = match (choice.contains(first), choice.contains(second)) {
@@ -80,11 +100,23 @@ fn clash_by_pixels(sheet: &Sheet, choice: Choice) -> Option<(usize, usize, Clash
 #[test]
 fn runs_agree_with_sets_of_pixels() {
     let mut random = Random::new(1);
+    let kinds = [
+        ClashKind::Labels,
+        ClashKind::LabelAndLeader,
+        ClashKind::Overhang,
+    ];
+    let mut seen = [0; 3];
     for _ in 0..3000 {
         let sheet = small_dense(&mut random, 8, 14, 6);
         let choice = Choice(random.next_number() as u32);
-        assert_eq!(first_clash(&sheet, choice), clash_by_pixels(&sheet, choice));
+        let clash = first_clash(&sheet, choice);
+        assert_eq!(clash, clash_by_pixels(&sheet, choice));
+        if let Some((_, _, kind)) = clash {
+            seen[kinds.iter().position(|&known| known == kind).unwrap()] += 1;
+        }
     }
+    // Each kind is named often.
+    assert!(seen.iter().all(|&times| times > 200), "{seen:?}");
 }
 
 #[test]
@@ -135,8 +167,11 @@ fn the_search_agrees_with_trying_every_choice() {
     }
 }
 
-/// Which labels and leaders share a pixel, from sets of pixels: it has nothing of the search.
+/// Which labels leave the map and which labels and leaders share a pixel, from sets of pixels: it
+/// has nothing of the search.
 struct Conflicts {
+    /// The points whose labels leave the map.
+    overhangs: u32,
     /// By position: the points whose labels the point's label meets.
     labels: Vec<u32>,
     /// By position: the points whose leaders the point's label meets.
@@ -158,14 +193,21 @@ impl Conflicts {
                 .filter(|&other| other != p && !labels[p].is_disjoint(&others[other]))
                 .fold(0, |bits, other| bits | 1 << other)
         };
+        let overhangs = (0..n)
+            .filter(|&p| one_is_off_the_map(sheet, &labels[p]))
+            .fold(0, |bits, p| bits | 1 << p);
         Conflicts {
+            overhangs,
             labels: (0..n).map(|p| met(p, &labels)).collect(),
             leaders: (0..n).map(|p| met(p, &leaders)).collect(),
         }
     }
 
-    /// Does no label meet a label or a leader if just these points are inside?
+    /// Does no label leave the map or meet a label or a leader if just these points are inside?
     fn none_among(&self, inside: u32) -> bool {
+        if self.overhangs & inside != 0 {
+            return false;
+        }
         let mut rest = inside;
         while rest != 0 {
             let p = rest.trailing_zeros() as usize;
@@ -206,13 +248,14 @@ fn crowded(random: &mut Random, n: u16) -> Sheet {
             falling_sheet(random, map, label, n, noise)
         }
     };
-    Sheet::read(&bytes).unwrap()
+    some_with_room(random, Sheet::read(&bytes).unwrap())
 }
 
 #[test]
 fn the_search_agrees_with_every_choice_up_to_20_points() {
     let mut random = Random::new(8);
     let mut some_inside = 0;
+    let mut some_overhang = 0;
     for n in 13..=20 {
         for _ in 0..150 {
             let sheet = crowded(&mut random, n);
@@ -222,11 +265,16 @@ fn the_search_agrees_with_every_choice_up_to_20_points() {
             assert_eq!(clash_by_pixels(&sheet, searched), None);
             assert_eq!(count, best_of_every_choice(&sheet));
             assert_eq!(best_choice(&sheet), searched);
-            some_inside += u32::from((2..u32::from(n) - 1).contains(&count));
+            let something_to_do = (2..u32::from(n) - 1).contains(&count);
+            some_inside += u32::from(something_to_do);
+            let overhangs = Conflicts::of(&sheet).overhangs != 0;
+            some_overhang += u32::from(something_to_do && overhangs);
         }
     }
-    // Most of the sheets leave the search something to do.
+    // Most of the sheets leave the search something to do, and many of these have labels that
+    // leave the map.
     assert!(some_inside > 600, "{some_inside}");
+    assert!(some_overhang > 200, "{some_overhang}");
 }
 
 #[test]
@@ -236,7 +284,7 @@ fn large_sheets_have_valid_best_choices_that_no_neighbour_beats() {
         let side = random.between(32, 120);
         let label = (random.between(1, 30), random.between(1, 30));
         let bytes = random_sheet(&mut random, (side, side), label, 32);
-        let sheet = Sheet::read(&bytes).unwrap();
+        let sheet = some_with_room(&mut random, Sheet::read(&bytes).unwrap());
         let best = best_choice(&sheet);
         assert!(valid(&sheet, best));
         // Putting up to two more points inside clashes.

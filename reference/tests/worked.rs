@@ -1,23 +1,40 @@
-//! The worked plates P1 to P10, the other examples and the plausible errors of document 01.
+//! The worked plates P1 to P10, the other examples and the plausible errors of document 01, and
+//! labels at the map's edge worked out from document 02 (a).
 
 use reference::random::sheet_bytes;
 use reference::search::{each_choice, search_best, try_all};
 use reference::{
-    best_choice, best_count, first_clash, listing, margin_columns, margin_width, plate_bytes,
-    read_plate, valid, Choice, ClashKind, Desk, Marked, Sheet, Verdict, WORKSPACE_NUMBERS,
+    best_choice, best_count, check_sheet, first_clash, listing, margin_columns, margin_width,
+    plate_bytes, read_plate, valid, Choice, ClashKind, Desk, Marked, Sheet, Verdict,
+    WORKSPACE_NUMBERS,
 };
 
-/// The bytes of a sheet on a map of 20 by 12; call numbers are 17, 18 and so on.
-fn bytes_of(label: (u16, u16), points: &[(u16, u16)]) -> Vec<u8> {
+/// The bytes of a sheet; call numbers are 17, 18 and so on.
+fn bytes_on(map: (u16, u16), label: (u16, u16), points: &[(u16, u16)]) -> Vec<u8> {
     let points: Vec<_> = (17..)
         .zip(points)
         .map(|(call, point)| (call, point.0, point.1))
         .collect();
-    sheet_bytes((20, 12), label, &points)
+    sheet_bytes(map, label, &points)
+}
+
+/// The bytes of a sheet on a map of 20 by 12.
+fn bytes_of(label: (u16, u16), points: &[(u16, u16)]) -> Vec<u8> {
+    bytes_on((20, 12), label, points)
 }
 
 fn sheet_of(label: (u16, u16), points: &[(u16, u16)]) -> Sheet {
     Sheet::read(&bytes_of(label, points)).unwrap()
+}
+
+/// A sheet with P1's map and label.
+fn p1_like(points: &[(u16, u16)]) -> Sheet {
+    Sheet::read(&bytes_on((20, 10), (4, 2), points)).unwrap()
+}
+
+/// As `p1_like`, but on a map with four more columns and rows.
+fn p1_like_with_room(points: &[(u16, u16)]) -> Sheet {
+    Sheet::read(&bytes_on((24, 14), (4, 2), points)).unwrap()
 }
 
 /// All valid choices of the best count. Both ways of finding it have to agree with them.
@@ -260,15 +277,6 @@ fn a_label_reaching_up_from_under_a_lower_wall() {
 }
 
 #[test]
-fn labels_may_run_over_the_right_and_top_edge() {
-    let sheet = sheet_of((256, 256), &[(19, 11)]);
-    assert_eq!(best_count(&sheet), 1);
-    // Two labels that meet only beyond the top edge still meet.
-    let sheet = sheet_of((2, 2), &[(18, 11), (19, 10)]);
-    assert!(!valid(&sheet, Choice::of(&[0, 1])));
-}
-
-#[test]
 fn the_smallest_pair_is_named() {
     // Labels 1 and 2 meet; the leader of 0 meets the label of 2 only.
     let sheet = sheet_of((4, 3), &[(4, 5), (6, 3), (4, 4)]);
@@ -280,4 +288,236 @@ fn the_smallest_pair_is_named() {
         first_clash(&sheet, Choice::of(&[0, 1, 2])),
         Some((0, 1, ClashKind::Labels))
     );
+}
+
+#[test]
+fn an_overhanging_point_can_only_be_outside() {
+    // Columns 18 to 21 on a map whose last column is 19.
+    let bytes = bytes_on((20, 10), (4, 2), &[(18, 2)]);
+    assert_eq!(check_sheet(&bytes), 0);
+    let sheet = Sheet::read(&bytes).unwrap();
+    assert_eq!(best_choices(&sheet), [Choice::default()]);
+    assert_eq!(best_count(&sheet), 0);
+    let plate = plate_bytes(&sheet, best_choice(&sheet));
+    assert_eq!(plate, [&bytes[..], &[0, 1, 0, 0]].concat());
+    assert_eq!(read_plate(&plate).number, 0);
+    assert_eq!(
+        listing(&bytes, best_choice(&sheet)),
+        "plate 1 0 1\n17 out 0\n"
+    );
+    // Its plate with the point inside.
+    let overhanging = [&bytes[..], &[1, 0, 0]].concat();
+    assert_eq!(plate_bytes(&sheet, Choice::of(&[0])), overhanging);
+    let reading = read_plate(&overhanging);
+    assert_eq!((reading.number, reading.inside), (44, &[][..]));
+    assert_eq!(reading.inside.as_ptr(), overhanging.as_ptr());
+}
+
+#[test]
+fn the_desk_on_an_overhanging_point() {
+    let mut desk = Desk::fresh();
+    let bytes = bytes_on((20, 10), (4, 2), &[(18, 2)]);
+    assert_eq!(desk.load(&bytes, WORKSPACE_NUMBERS), 0);
+    assert_eq!(desk.loaded(), Some((1, 0)));
+    assert_eq!(
+        desk.mark(&[1, 0]),
+        Ok(Marked {
+            number: 1,
+            verdict: Verdict::Clash {
+                first: 0,
+                second: 0,
+                kind: ClashKind::Overhang
+            }
+        })
+    );
+    assert_eq!(
+        desk.mark(&[0]),
+        Ok(Marked {
+            number: 2,
+            verdict: Verdict::Valid {
+                count: 0,
+                shortfall: 0
+            }
+        })
+    );
+}
+
+/// A point alone on P1's map with P1's label: it can be inside.
+fn fits(point: (u16, u16)) {
+    let sheet = p1_like(&[point]);
+    assert_eq!(first_clash(&sheet, Choice::of(&[0])), None);
+    assert_eq!(best_choices(&sheet), [Choice::of(&[0])]);
+    let plate = plate_bytes(&sheet, Choice::of(&[0]));
+    assert_eq!(read_plate(&plate).number, 0);
+}
+
+/// A point alone on P1's map with P1's label: it can't be inside.
+fn overhangs(point: (u16, u16)) {
+    let sheet = p1_like(&[point]);
+    let inside = Choice::of(&[0]);
+    let overhang = Some((0, 0, ClashKind::Overhang));
+    assert_eq!(first_clash(&sheet, inside), overhang);
+    assert_eq!(best_choices(&sheet), [Choice::default()]);
+    assert_eq!(read_plate(&plate_bytes(&sheet, inside)).number, 44);
+}
+
+#[test]
+fn labels_at_the_edges() {
+    // The last column is 19 and the last row is 9. A label that ends there is on the map.
+    fits((16, 3));
+    fits((5, 8));
+    fits((16, 8));
+    fits((0, 0));
+    // One further it leaves the map.
+    overhangs((17, 3));
+    overhangs((5, 9));
+    overhangs((17, 8));
+    overhangs((16, 9));
+    overhangs((19, 9));
+    // Both edges touched by different labels, and both crossed.
+    let touching = p1_like(&[(16, 3), (5, 8)]);
+    assert_eq!(best_choices(&touching), [Choice::of(&[0, 1])]);
+    let crossing = p1_like(&[(17, 3), (5, 9)]);
+    assert_eq!(best_choices(&crossing), [Choice::default()]);
+}
+
+#[test]
+fn labels_as_large_as_the_map_and_larger() {
+    assert_eq!(best_count(&sheet_of((20, 12), &[(0, 0)])), 1);
+    assert_eq!(best_count(&sheet_of((20, 12), &[(1, 0)])), 0);
+    assert_eq!(best_count(&sheet_of((20, 12), &[(0, 1)])), 0);
+    assert_eq!(best_count(&sheet_of((21, 12), &[(0, 0)])), 0);
+    assert_eq!(best_count(&sheet_of((20, 13), &[(0, 0)])), 0);
+    assert_eq!(best_count(&sheet_of((256, 256), &[(0, 0), (19, 11)])), 0);
+}
+
+#[test]
+fn outside_points_never_overhang() {
+    // The outer label of a point in the last row is in rows 9 and 10, left of the map.
+    let sheet = p1_like(&[(5, 9), (19, 8)]);
+    let none = Choice::default();
+    assert_eq!(margin_columns(&sheet, none), [Some(0), Some(1)]);
+    assert!(valid(&sheet, none));
+    assert_eq!(read_plate(&plate_bytes(&sheet, none)).number, 0);
+    // Beside an inside label.
+    let sheet = p1_like(&[(5, 9), (3, 2)]);
+    assert_eq!(best_choices(&sheet), [Choice::of(&[1])]);
+}
+
+#[test]
+fn an_overhanging_points_leader_puts_others_outside() {
+    // The second is outside, and its leader in row 4 crosses the place of the first's label,
+    // columns 10 to 13 of rows 3 and 4.
+    let points = [(10, 3), (18, 4)];
+    let sheet = p1_like(&points);
+    assert_eq!(best_choices(&sheet), [Choice::default()]);
+    assert_eq!(
+        first_clash(&sheet, Choice::of(&[0])),
+        Some((0, 1, ClashKind::LabelAndLeader))
+    );
+    assert_eq!(
+        best_choices(&p1_like_with_room(&points)),
+        [Choice::of(&[0, 1])]
+    );
+}
+
+#[test]
+fn overhanging_points_of_a_larger_sheet() {
+    // Labels one row high, a point in each row: none meets another point's label or leader. Those
+    // from column 16 end in the last column, 19.
+    let points: Vec<_> = (0..14).map(|row| (16 + row % 2, row)).collect();
+    let sheet = Sheet::read(&bytes_on((20, 14), (4, 1), &points)).unwrap();
+    let even = Choice::of(&[0, 2, 4, 6, 8, 10, 12]);
+    assert_eq!(best_choices(&sheet), [even]);
+    let sheet = Sheet::read(&bytes_on((21, 14), (4, 1), &points)).unwrap();
+    assert_eq!(best_count(&sheet), 14);
+    let sheet = Sheet::read(&bytes_on((19, 14), (4, 1), &points)).unwrap();
+    assert_eq!(best_count(&sheet), 0);
+}
+
+/// The clash named for a choice on P1's map with P1's label, and the one on a map with room for all
+/// labels.
+fn clashes(points: &[(u16, u16)], inside: &[u8]) -> [Option<(usize, usize, ClashKind)>; 2] {
+    [p1_like(points), p1_like_with_room(points)]
+        .map(|sheet| first_clash(&sheet, Choice::of(inside)))
+}
+
+#[test]
+fn an_overhang_is_named_ahead_of_the_points_clashes_with_later_ones() {
+    // The first's label leaves the map and is in rows 2 and 3; the second's label starts in row 3
+    // and column 18, where its leader ends.
+    let points = [(18, 2), (18, 3)];
+    assert_eq!(
+        clashes(&points, &[0, 1]),
+        [
+            Some((0, 0, ClashKind::Overhang)),
+            Some((0, 1, ClashKind::Labels))
+        ]
+    );
+    assert_eq!(
+        clashes(&points, &[0]),
+        [
+            Some((0, 0, ClashKind::Overhang)),
+            Some((0, 1, ClashKind::LabelAndLeader))
+        ]
+    );
+    // The same of the second and the third; the first is free of both.
+    let points = [(2, 0), (17, 4), (16, 5)];
+    assert_eq!(
+        clashes(&points, &[0, 1, 2]),
+        [
+            Some((1, 1, ClashKind::Overhang)),
+            Some((1, 2, ClashKind::Labels))
+        ]
+    );
+    // The third's leader ends in column 16, left of the second's label.
+    assert_eq!(
+        clashes(&points, &[1]),
+        [Some((1, 1, ClashKind::Overhang)), None]
+    );
+    // In column 17 it ends in that label.
+    assert_eq!(
+        clashes(&[(2, 0), (17, 4), (17, 5)], &[1]),
+        [
+            Some((1, 1, ClashKind::Overhang)),
+            Some((1, 2, ClashKind::LabelAndLeader))
+        ]
+    );
+}
+
+#[test]
+fn an_overhang_is_named_after_clashes_of_an_earlier_point() {
+    // The second's label leaves the map and meets the first's, which ends in column 18.
+    let points = [(15, 4), (17, 5)];
+    let labels = Some((0, 1, ClashKind::Labels));
+    assert_eq!(clashes(&points, &[0, 1]), [labels, labels]);
+    // The first's leader is in row 4, under the second's label.
+    assert_eq!(
+        clashes(&points, &[1]),
+        [Some((1, 1, ClashKind::Overhang)), None]
+    );
+    // The first's leader ends in the second's label, rows 5 and 6.
+    let leader = Some((0, 1, ClashKind::LabelAndLeader));
+    assert_eq!(clashes(&[(17, 6), (17, 5)], &[1]), [leader, leader]);
+    // The first and the third are P1's first two, far below the second, which leaves the map.
+    let points = [(2, 3), (18, 7), (4, 4)];
+    let labels = Some((0, 2, ClashKind::Labels));
+    assert_eq!(clashes(&points, &[0, 1, 2]), [labels, labels]);
+    let leader = Some((0, 2, ClashKind::LabelAndLeader));
+    assert_eq!(clashes(&points, &[0, 1]), [leader, leader]);
+    // With the first outside nothing else is left.
+    assert_eq!(
+        clashes(&points, &[1, 2]),
+        [Some((1, 1, ClashKind::Overhang)), None]
+    );
+}
+
+#[test]
+fn of_two_overhangs_the_smaller_position_is_named() {
+    // The labels are in rows 2 and 3 and in rows 6 and 7.
+    let points = [(18, 2), (17, 6)];
+    let first = Some((0, 0, ClashKind::Overhang));
+    assert_eq!(clashes(&points, &[0, 1]), [first, None]);
+    let second = Some((1, 1, ClashKind::Overhang));
+    assert_eq!(clashes(&points, &[1]), [second, None]);
 }
