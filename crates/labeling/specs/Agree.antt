@@ -1,6 +1,6 @@
 -- Only positions below n matter: marks, validity and weight are the same for choices that agree there.
 -- Assumes nothing.
-use mathlib.Core.Path.{_≡_, refl, sym}
+use mathlib.Core.Path.{_≡_, refl, sym, _∙_}
 use Prim.Native.Nat.{ℕ, zero, suc, _<_}
 use native.Mathlib.Omega.{arith}
 use Rattle.labeling.specs.Points.{Points, Choice, Pixel, outsideBelow, outside, marginColumn}
@@ -29,7 +29,10 @@ marks-agree P S R i p l a m = rw (a .at i l, margin-agree P S R i a) at m
 pub valid-agree : (P : Points) (S R : Choice) → Agree P S R → Valid P S → Valid P R
 valid-agree P S R a v =
     let b = agree-sym P S R a in
-    record { apart = λ p i j l m ne x y. v .apart p i j l m ne (marks-agree P R S i p l b x) (marks-agree P R S j p m b y) }
+    record {
+      apart = λ p i j l m ne x y. v .apart p i j l m ne (marks-agree P R S i p l b x) (marks-agree P R S j p m b y);
+      within = λ i l t. v .within i l (a .at i l ∙ t);
+    }
 
 pub weightBelow-agree : (v : ℕ → ℕ) (S R : Choice) (m : ℕ) → ((i : ℕ) → i < m → S i ≡ R i) → weightBelow v S m ≡ weightBelow v R m
 unfolding weightBelow

@@ -5,6 +5,7 @@ use mathlib.Core.Bool.{Bool, true, cond, not, _&&_, _||_}
 use Prim.Native.Nat.{ℕ, zero, suc, _+_, _≤_, _<_}
 use lib.Dec.{ltb, leb, eqb}
 use Rattle.labeling.specs.Points.{Points, Choice}
+use Rattle.labeling.specs.Marks.{LabelOnMap, labelOnMapB}
 
 -- The labels of i and j share a pixel.
 abbrev pub Overlap : Points → ℕ → ℕ → Type 0
@@ -30,14 +31,23 @@ Conflict P S i j = cond (S i) (cond (S j) (Overlap P i j) (Hits P i j)) (cond (S
 unfoldable pub conflictB : Points → Choice → ℕ → ℕ → Bool
 conflictB P S i j = cond (S i) (cond (S j) (overlapB P i j) (hitsB P i j)) (cond (S j) (hitsB P j i) (eqb (P .row i) (P .row j)))
 
--- No two positions conflict.
+-- No two positions conflict, and no inside label leaves the map.
 pub record Free (P : Points) (S : Choice) : Type 0 where
   pub apart : (i j : ℕ) → i < P .n → j < P .n → (i ≡ j → ⊥) → Conflict P S i j → ⊥
+  pub within : (i : ℕ) → i < P .n → S i ≡ true → LabelOnMap P i
 
 -- Every number below n passes.
 unfoldable pub every : (ℕ → Bool) → ℕ → Bool
 every f zero = true
 every f (suc n) = f n && every f n
 
+-- No two positions conflict.
+unfoldable pub apartB : Points → Choice → Bool
+apartB P S = every (λ i. every (λ j. eqb i j || not (conflictB P S i j)) (P .n)) (P .n)
+
+-- No inside label leaves the map.
+unfoldable pub withinB : Points → Choice → Bool
+withinB P S = every (λ i. not (S i) || labelOnMapB P i) (P .n)
+
 unfoldable pub validB : Points → Choice → Bool
-validB P S = every (λ i. every (λ j. eqb i j || not (conflictB P S i j)) (P .n)) (P .n)
+validB P S = apartB P S && withinB P S

@@ -152,7 +152,12 @@ dec-unless {a} {b} d e = record {
   of = λ f. decide a (λ x. or-left a b x) (λ x. or-right a b (e .of (f (λ y. not-both (d .of y) x))));
 }
 
--- Two forms of it: the second fact holds if b ≤ n;
+-- Three forms of it: the fact holds if s is true;
+pub dec-if : (s : Bool) {b : Bool} {B : Type 0} → Decides b B → Decides (not s || b) (s ≡ true → B)
+dec-if true d = record { is = λ x e. d .is x; of = λ f. d .of (f refl) }
+dec-if false d = record { is = λ x e. absurd (not-both e refl); of = λ f. refl }
+
+-- the second fact holds if b ≤ n;
 pub dec-if-le : (n b : ℕ) {c : Bool} {C : Type 0} → Decides c C → Decides (ltb n b || c) (b ≤ n → C)
 dec-if-le n b e =
     let g = dec-unless (dec-lt n b) e in

@@ -4,11 +4,12 @@ pub mod Points
 pub mod Marks
 pub mod Conflicts
 pub mod Best
--- THEOREMS OVER PIXELS: conflicts are shared pixels, and the test of validity decides it (Pixels, ConflictTable); the outside list and the
--- margin columns (Order, Margin); the best is reached and never exceeded (Greatest); single pixels (Looks).
+-- THEOREMS OVER PIXELS: conflicts are shared pixels, and the test of validity decides it (Pixels, ConflictTable); a label on the map
+-- (Frame); the outside list and the margin columns (Order, Margin); the best is reached and never exceeded (Greatest); single pixels (Looks).
 pub mod Margin
 pub mod Order
 pub mod Pixels
+pub mod Frame
 pub mod ConflictTable
 pub mod Greatest
 pub mod Looks

@@ -1,6 +1,6 @@
--- Two points share a pixel exactly if they conflict; validity by pixels is validity by pairs.
+-- Two points share a pixel exactly if they conflict; validity by pixels is validity by arithmetic.
 -- Assumes nothing.
-use mathlib.Core.Path.{_≡_}
+use mathlib.Core.Path.{_≡_, refl}
 use mathlib.Core.Bool.{true, false}
 use mathlib.Core.Logic.{_⊎_, inl, inr, _↔_}
 use Prim.Native.Nat.{ℕ, _+_, _*_, _≤_, _<_, max}
@@ -9,7 +9,7 @@ use native.Mathlib.Omega.{arith}
 use Rattle.labeling.specs.Points.{Points, Choice, DistinctRows, Pixel, atColumn, inMargin, marginColumn}
 use Rattle.labeling.specs.Marks.{Label, Leader, Outer, Marks, Shared, Valid}
 use Rattle.labeling.specs.Conflicts.{Overlap, Hits, Conflict, Free, validB}
-use Rattle.labeling.specs.Decide.{decide, same, Decides}
+use Rattle.labeling.specs.Decide.{not-both, decide, same, Decides}
 use Rattle.labeling.specs.Tests.{dec-free}
 use Rattle.labeling.specs.Margin.{lower-further}
 
@@ -129,12 +129,15 @@ conflict-shared P S i j pos c =
 pub shared-iff-conflict : (P : Points) (S : Choice) (i j : ℕ) → 1 ≤ P .w → i < P .n → j < P .n → Shared P S i j ↔ Conflict P S i j
 shared-iff-conflict P S i j pos l m = (λ s. shared-conflict P S (s .0) i j l m (s .1) (s .2), conflict-shared P S i j pos)
 
--- so valid is exactly "no pair conflicts", and a test decides it
+-- so valid is exactly "no pair conflicts and no inside label leaves the map", and a test decides it
 pub free-valid : (P : Points) (S : Choice) → Free P S → Valid P S
-free-valid P S f = record { apart = λ p i j l m ne x y. f .apart i j l m ne (shared-conflict P S p i j l m x y) }
+free-valid P S f = record { apart = λ p i j l m ne x y. f .apart i j l m ne (shared-conflict P S p i j l m x y); within = f .within }
 
 pub valid-free : (P : Points) (S : Choice) → 1 ≤ P .w → Valid P S → Free P S
-valid-free P S pos v = record { apart = λ i j l m ne c. let s = conflict-shared P S i j pos c in v .apart (s .0) i j l m ne (s .1) (s .2) }
+valid-free P S pos v = record {
+  apart = λ i j l m ne c. let s = conflict-shared P S i j pos c in v .apart (s .0) i j l m ne (s .1) (s .2);
+  within = v .within;
+}
 
 pub valid-iff-free : (P : Points) (S : Choice) → 1 ≤ P .w → Valid P S ↔ Free P S
 valid-iff-free P S pos = (valid-free P S pos, free-valid P S)
@@ -145,4 +148,4 @@ dec-valid P S pos = record { is = λ e. free-valid P S (dec-free P S .is e); of 
 -- (iii) "Rows are distinct, so the choice with nothing inside is always valid."
 pub nothing-inside : (P : Points) → DistinctRows P → Valid P (λ i. false)
 unfolding Conflict
-nothing-inside P d = free-valid P (λ i. false) (record { apart = λ i j l m ne c. ne (d .apart i j l m c) })
+nothing-inside P d = free-valid P (λ i. false) (record { apart = λ i j l m ne c. ne (d .apart i j l m c); within = λ i l t. absurd (not-both t refl) })

@@ -7,7 +7,7 @@ use Prim.Native.Nat.{ℕ, zero, suc, _≤_, _<_}
 use lib.Dec.{eqb}
 use native.Mathlib.Omega.{arith}
 use Rattle.labeling.specs.Points.{Points, Choice}
-use Rattle.labeling.specs.Marks.{Valid}
+use Rattle.labeling.specs.Marks.{LabelOnMap, Valid}
 use Rattle.labeling.specs.Conflicts
 use Rattle.labeling.specs.Conflicts.{Conflict}
 use Rattle.labeling.specs.Decide.{not-both, decide, same, dec-eq}
@@ -37,9 +37,11 @@ pub record Arranged (P : Points) (v : ℕ → ℕ) (f : ℕ → Bool) (H : Heigh
 pub record SameChoice (H : Heights) (position : ℕ → ℕ) (R S : ℕ → Bool) : Type 0 where
   pub at : (i : ℕ) → Point H i → R (position i) ≡ S i
 
--- The permissions f keep no choice out: a position that is inside in a choice without conflicts is permitted.
+-- The permissions f are right: needed, since a position that is inside in a choice without conflicts is permitted; and enough, since the
+-- label of a permitted position is on the map.
 pub record Permits (P : Points) (f : ℕ → Bool) : Type 0 where
   pub needed : (S : Choice) → Conflicts.Free P S → (p : ℕ) → p < P .n → S p ≡ true → f p ≡ true
+  pub enough : (p : ℕ) → p < P .n → f p ≡ true → LabelOnMap P p
 
 -- The point in height order at a position.
 unfoldable pub heightOf : Heights → (ℕ → ℕ) → ℕ → ℕ
@@ -105,8 +107,13 @@ module _ {P : Points} {v : ℕ → ℕ} {f : ℕ → Bool} {H : Heights} {positi
           let x = A .each p l in
           let y = A .each q m in
           apart (x .0) (y .0) (x .1) (y .1) (λ z. ne (sym (x .2) ∙ (ap position z ∙ y .2))) (rw (x .2, y .2) c);
+      within = λ p l t. let x = A .each p l in within (x .0) (x .1) p (x .2) l t;
     }
       where
+        within : (i : ℕ) → Point H i → (p : ℕ) → position i ≡ p → p < P .n → R p ≡ true → LabelOnMap P p
+        within i pi p q l t =
+            permits .enough p l (ap f (sym q) ∙ (sym (A .allowed i pi) ∙ ok .allowed i pi (sym (s .at i pi) ∙ (ap R q ∙ t))))
+
         apart : (i j : ℕ) → Point H i → Point H j → (i ≡ j → ⊥) → Conflict P R (position i) (position j) → ⊥
         apart i j pi pj ne c =
             decide (S i)
@@ -123,7 +130,7 @@ module _ {P : Points} {v : ℕ → ℕ} {f : ℕ → Bool} {H : Heights} {positi
     pub free-iff : Conflicts.Free P R ↔ Recurrence.Free H S
     free-iff = (free-there, free-back)
 
-    -- it is valid, no pixel being marked twice, exactly if it is without conflicts in height order.
+    -- it is valid, by pixels and by the frame, exactly if it is without conflicts in height order.
     pub valid-iff : 1 ≤ P .w → Valid P R ↔ Recurrence.Free H S
     valid-iff pos =
         let k = valid-iff-free P R pos in

@@ -1,16 +1,14 @@
 -- The tests of Marks.antt and Conflicts.antt decide the facts beside them.
 -- Assumes nothing.
-use mathlib.Core.Path.{_≡_, refl, sym}
-use mathlib.Core.Bool.{Bool, true, false, not, _||_}
+use mathlib.Core.Path.{_≡_, refl}
+use mathlib.Core.Bool.{Bool, true}
 use Prim.Native.Nat.{ℕ, zero, suc, _<_}
-use lib.Dec.{eqb}
-use borrow.Author.Tests.{eq-eqb, ne-eqb}
 use native.Mathlib.Omega.{arith}
 use Rattle.labeling.specs.Points.{Points, Choice, Pixel, atColumn, inMargin}
-use Rattle.labeling.specs.Marks.{Label, Leader, Outer, Marks, labelB, leaderB, outerB, marksB}
-use Rattle.labeling.specs.Conflicts.{Overlap, Hits, Conflict, Free, overlapB, hitsB, conflictB, every, validB}
-use Rattle.labeling.specs.Decide.{Decides, not-both, same, and-left, and-right, and-both, or-left, or-right, dec-lt}
-use Rattle.labeling.specs.Decide.{dec-le, dec-eq, dec-none, dec-and, dec-and₃, dec-and₄, dec-or, dec-not, dec-cond}
+use Rattle.labeling.specs.Marks.{Label, Leader, Outer, Marks, LabelOnMap, labelB, leaderB, outerB, marksB, labelOnMapB}
+use Rattle.labeling.specs.Conflicts.{Overlap, Hits, Conflict, Free, overlapB, hitsB, conflictB, every, apartB, withinB, validB}
+use Rattle.labeling.specs.Decide.{Decides, same, and-left, and-right, and-both, dec-lt, dec-le, dec-eq, dec-none, dec-and, dec-and₃}
+use Rattle.labeling.specs.Decide.{dec-and₄, dec-or, dec-not, dec-cond, dec-map, dec-unless, dec-if}
 
 pub every-of : (f : ℕ → Bool) (n : ℕ) → ((i : ℕ) → i < n → f i ≡ true) → every f n ≡ true
 unfolding every
@@ -21,6 +19,11 @@ pub every-is : (f : ℕ → Bool) (n : ℕ) → every f n ≡ true → (i : ℕ)
 unfolding every
 every-is f zero e i l = absurd (omega arith)
 every-is f (suc n) e i l = same i n (λ k. rw k (and-left _ _ e)) (λ k. every-is f n (and-right (f n) _ e) i (omega arith))
+
+-- `every` decides that each number below n has the fact that is tested.
+pub dec-every : (f : ℕ → Bool) (F : ℕ → Type 0) (n : ℕ) → ((i : ℕ) → Decides (f i) (F i))
+    → Decides (every f n) ((i : ℕ) → i < n → F i)
+dec-every f F n d = record { is = λ e i l. d i .is (every-is f n e i l); of = λ k. every-of f n (λ i l. d i .of (k i l)) }
 
 -- THE TESTS OF Marks.antt AND Conflicts.antt
 
@@ -51,25 +54,12 @@ unfolding conflictB Conflict
 dec-conflict P S i j =
     dec-cond (S i) (dec-cond (S j) (dec-overlap P i j) (dec-hits P i j)) (dec-cond (S j) (dec-hits P j i) (dec-eq _ _))
 
+pub dec-label-on-map : (P : Points) (i : ℕ) → Decides (labelOnMapB P i) (LabelOnMap P i)
+dec-label-on-map P i = dec-and (dec-le _ _) (dec-le _ _)
+
 pub dec-free : (P : Points) (S : Choice) → Decides (validB P S) (Free P S)
-unfolding validB
-dec-free P S = record {
-  is = λ e.
-      record { apart = λ i j l m ne. off i j (every-is (other i) (P .n) (every-is (λ i. every (other i) (P .n)) (P .n) e i l) j m) ne };
-  of = λ f. every-of (λ i. every (other i) (P .n)) (P .n) (λ i l. every-of (other i) (P .n) (λ j m. on f i j l m));
-}
-  where
-    other : ℕ → ℕ → Bool
-    other i j = eqb i j || not (conflictB P S i j)
-
-    off : (i j : ℕ) → other i j ≡ true → (i ≡ j → ⊥) → Conflict P S i j → ⊥
-    off i j e ne c = not-both (dec-conflict P S i j .of c) (ruled (eqb i j) _ e (ne-eqb i j ne))
-      where
-        ruled : (a b : Bool) → (a || not b) ≡ true → a ≡ false → b ≡ false
-        ruled true b e f = absurd (not-both refl f)
-        ruled false true e f = sym e
-        ruled false false e f = refl
-
-    on : Free P S → (i j : ℕ) → i < P .n → j < P .n → other i j ≡ true
-    on f i j l m =
-        same i j (λ e. or-left _ _ (eq-eqb i j e)) (λ ne. or-right (eqb i j) _ (dec-not (dec-conflict P S i j) .of (f .apart i j l m ne)))
+unfolding validB apartB withinB
+dec-free P S =
+    dec-map (λ x. record { apart = λ i j l m. x .0 i l j m; within = x .1 }) (λ f. (λ i l j m. f .apart i j l m, f .within))
+    (dec-and (dec-every _ _ (P .n) (λ i. dec-every _ _ (P .n) (λ j. dec-unless (dec-eq i j) (dec-not (dec-conflict P S i j)))))
+    (dec-every _ _ (P .n) (λ i. dec-if (S i) (dec-label-on-map P i))))
