@@ -1,12 +1,13 @@
 // The bytes of sheets and plates.
 ghost use mathlib.Core.Path.{_≡_};
 ghost use Prim.Native.Nat.{_+_, _*_, _<_};
-ghost use lib.Dec.{ltb};
+ghost use lib.Dec.{ltb, leb};
 ghost use lib.ListN.{getD};
 ghost use Rattle.format.specs.Sheet.{twoBytes, sheetLength, mapWidth, mapHeight, labelWidth, labelHeight, pointCount};
 ghost use Rattle.format.specs.Sheet.{callNumber, column as columnOf, row as rowOf, pointsOf};
 ghost use Rattle.format.specs.Sheet.{upTo, bothUpTo, onMap, unlikeEarlier, pointNo, pointsNo, questionsNo, sheetNo};
 ghost use Rattle.labeling.specs.Points.{nextMargin};
+ghost use Rattle.labeling.specs.Marks.{labelOnMapB};
 ghost use Rattle.format.specs.Answers.{sheetOutcome, outcomeOf};
 ghost use Rattle.format.specs.Reader.{pointAt};
 use reader::SheetPoint;
@@ -116,6 +117,27 @@ pub fn within(a: u16, b: u16, length: u16) -> bool
     ensures { λ r. ⌜ r ≡ ltb a (b + length) ⌝ }
 {
     (a as u32) < b as u32 + length as u32
+}
+
+// A stretch of `length` from `start` on ends at `end` or before.
+fn ends_by(start: u16, length: u16, end: u16) -> bool
+    ensures { λ r. ⌜ r ≡ leb (start + length) end ⌝ }
+{
+    start as u32 + length as u32 <= end as u32
+}
+
+// The label of a position, put inside, is on the map.
+pub fn label_on_map(sheet: &[u8], position: u8) -> bool
+    ensures { λ r. ⌜ r ≡ labelOnMapB (pointsOf (now (sheet .entry))) position ⌝ }
+{
+    if ends_by(
+        column(sheet, position),
+        label_width(sheet),
+        map_width(sheet),
+    ) {
+        return ends_by(row(sheet, position), label_height(sheet), map_height(sheet));
+    }
+    false
 }
 
 // The margin column of the outside position that comes next after the position `previous` in the margin column `margin`.
