@@ -1,27 +1,25 @@
--- On an accepted sheet the first clash is none exactly if the choice is valid, and otherwise it is the first two points, in document
--- 01's order, that mark one pixel, with the kind that document 01 gives them. Assumes nothing.
+-- On an accepted sheet the first clash is none exactly if the choice is valid, and otherwise it is the first, in the documents' order, of
+-- the labels that leave the map and the pairs of points that mark one pixel, with the kind that the documents give it. Assumes nothing.
 use mathlib.Core.Path.{_≡_, refl, sym, ap, _∙_}
 use mathlib.Core.Bool.{Bool, true, false, cond}
 use mathlib.Core.Logic.{_⊎_, inl, inr, _↔_}
 use mathlib.Core.List.{List}
 use Prim.Native.Nat.{ℕ, zero, suc, _≤_, _<_}
-use lib.Dec.{ltb}
-use borrow.Author.Tests.{lt-ltb, ltb-true, ltb-false}
+use borrow.Author.Tests.{lt-ltb, le-ltb, eq-eqb, ne-eqb}
 use native.Mathlib.Omega.{arith}
 use Rattle.labeling.specs.Points.{Points, Choice, DistinctRows}
-use Rattle.labeling.specs.Marks.{Shared, Valid}
-use Rattle.labeling.specs.Conflicts.{Conflict, Free}
-use Rattle.labeling.specs.Decide.{not-both, decide, same, Decides}
-use Rattle.labeling.specs.Tests.{dec-overlap, dec-hits}
-use Rattle.labeling.specs.Pixels.{shared-conflict, conflict-shared, free-valid, valid-free}
-use Rattle.labeling.specs.ConflictTable.{conflict-sym}
+use Rattle.labeling.specs.Marks.{Shared, LabelOnMap, Valid, labelOnMapB}
+use Rattle.labeling.specs.Conflicts.{Conflict}
+use Rattle.labeling.specs.Decide.{not-both, decide, same, less, Decides, dec-not, dec-map}
+use Rattle.labeling.specs.Tests.{dec-overlap, dec-hits, dec-label-on-map}
+use Rattle.labeling.specs.Pixels.{shared-conflict, conflict-shared}
 use Rattle.format.specs.Sheet.{pointsOf}
 use Rattle.format.specs.Accepted.{Accepted}
 use Rattle.clash.specs.declared.ClashKind.{ClashKind}
-use Rattle.clash.specs.declared.ClashKind.the-variants.{Labels, LabelAndLeader}
+use Rattle.clash.specs.declared.ClashKind.the-variants.{Labels, LabelAndLeader, Overhang}
 use Rattle.clash.specs.declared.Clash.{Clash}
 use Rattle.clash.specs.declared.Clash.the-variants.{None, Between}
-use Rattle.clash.specs.FirstClash.{isClash, orElse, clashIf, pairClash, firstOf, orderedClash, clashOf, firstClash}
+use Rattle.clash.specs.FirstClash.{isClash, orElse, clashIf, pairClash, ownClash, firstOf, orderedClash, clashOf, firstClash}
 
 -- none is no clash
 none-between : {c : Clash} {i j : ℕ} {k : ClashKind} → c ≡ None → c ≡ Between i j k → ⊥
@@ -68,123 +66,172 @@ first-at f (suc m) {i} {j} {k} e = which (or-between (firstOf f m) (f m) e) (fir
     which (inl q) ih = let r = ih q in record { at = r .at; below = omega (arith, r .below); is = r .is; earlier = r .earlier }
     which (inr q) ih = record { at = m; below = omega arith; is = q .1; earlier = none-first f m (q .0) }
 
--- A PAIR
+-- WHAT CLASHES
 
--- What a kind says of its two positions, inside or not: "whether two labels met or a label met a leader".
-abbrev pub KindOf : ClashKind → Bool → Bool → Type 0
-KindOf Labels a b = (a ≡ true) × (b ≡ true)
-KindOf LabelAndLeader a b = ((a ≡ true) × (b ≡ false)) ⊎ ((a ≡ false) × (b ≡ true))
+-- Position i is inside, and its label leaves the map.
+abbrev pub Overhangs : Points → Choice → ℕ → Type 0
+Overhangs P S i = (S i ≡ true) × (LabelOnMap P i → ⊥)
 
--- A pair's clash: none, and the two do not conflict; or the pair, with its kind, and they do.
-data PairIs (P : Points) (S : Choice) (i j : ℕ) : Clash → Type 0 where
-  apart : (Conflict P S i j → ⊥) → PairIs P S i j None
-  met : {k : ClashKind} → Conflict P S i j → KindOf k (S i) (S j) → PairIs P S i j (Between i j k)
+-- Two positions clash if they mark one pixel. Document 02 (a): "an overhang counts as a clash of a position with itself".
+abbrev pub Clashing : Points → Choice → ℕ → ℕ → Type 0
+Clashing P S i j = ((i ≡ j) × Overhangs P S i) ⊎ ((i ≡ j → ⊥) × Shared P S i j)
 
--- by the test that decides whether the pair conflicts
-pair-if : (P : Points) (S : Choice) (i j : ℕ) (k : ClashKind) {b : Bool} {A : Type 0}
-    → Decides b A → (A → Conflict P S i j) → (Conflict P S i j → A) → KindOf k (S i) (S j) → PairIs P S i j (clashIf b i j k)
-pair-if P S i j k {b} d to of kind =
+-- What a kind says of its two positions: "whether two labels met or a label met a leader"; an overhang "gets its own kind".
+abbrev pub KindOf : ClashKind → Choice → ℕ → ℕ → Type 0
+KindOf Labels S i j = (i ≡ j → ⊥) × (S i ≡ true) × (S j ≡ true)
+KindOf LabelAndLeader S i j = ((S i ≡ true) × (S j ≡ false)) ⊎ ((S i ≡ false) × (S j ≡ true))
+KindOf Overhang S i j = i ≡ j
+
+-- THE CLASH THAT THE DOCUMENTS NAME: i and j clash; k is the one kind that they have; and no two positions before them clash, by the first
+-- position and then by the second.
+pub record Named (P : Points) (S : Choice) (i j : ℕ) (k : ClashKind) : Type 0 where
+  pub ordered : i ≤ j
+  pub below : j < P .n
+  pub clashing : Clashing P S i j
+  pub kind : (m : ClashKind) → (k ≡ m) ↔ KindOf m S i j
+  pub earlier : (a b : ℕ) → a ≤ b → b < P .n → (a < i) ⊎ ((a ≡ i) × (b < j)) → Clashing P S a b → ⊥
+
+-- two positions have one kind
+kind-once : (k m : ClashKind) (S : Choice) (i j : ℕ) → KindOf k S i j → KindOf m S i j → k ≡ m
+kind-once Labels Labels S i j x y = refl
+kind-once Labels LabelAndLeader S i j x (inl y) = absurd (not-both (x .2) (y .1))
+kind-once Labels LabelAndLeader S i j x (inr y) = absurd (not-both (x .1) (y .0))
+kind-once Labels Overhang S i j x y = absurd (x .0 y)
+kind-once LabelAndLeader Labels S i j (inl x) y = absurd (not-both (y .2) (x .1))
+kind-once LabelAndLeader Labels S i j (inr x) y = absurd (not-both (y .1) (x .0))
+kind-once LabelAndLeader LabelAndLeader S i j x y = refl
+kind-once LabelAndLeader Overhang S i j (inl x) y = absurd (not-both (x .0) (ap S y ∙ x .1))
+kind-once LabelAndLeader Overhang S i j (inr x) y = absurd (not-both (x .1) (ap S (sym y) ∙ x .0))
+kind-once Overhang Labels S i j x y = absurd (y .0 x)
+kind-once Overhang LabelAndLeader S i j x (inl y) = absurd (not-both (y .0) (ap S x ∙ y .1))
+kind-once Overhang LabelAndLeader S i j x (inr y) = absurd (not-both (y .1) (ap S (sym x) ∙ y .0))
+kind-once Overhang Overhang S i j x y = refl
+
+-- A CLASH OF TWO POSITIONS: none, and they don't clash; or the two, with their kind, and they do.
+data ClashIs (P : Points) (S : Choice) (i j : ℕ) : Clash → Type 0 where
+  apart : (Clashing P S i j → ⊥) → ClashIs P S i j None
+  met : {k : ClashKind} → Clashing P S i j → KindOf k S i j → ClashIs P S i j (Between i j k)
+
+-- by the test that decides whether they clash
+clash-if : (P : Points) (S : Choice) (i j : ℕ) (k : ClashKind) {b : Bool}
+    → Decides b (Clashing P S i j) → KindOf k S i j → ClashIs P S i j (clashIf b i j k)
+clash-if P S i j k {b} d kind =
     decide b
-    (λ e. rw e (met (to (d .is e)) kind))
-    (λ e. rw e (apart (λ c. not-both (d .of (of c)) e)))
+    (λ e. rw e (met (d .is e) kind))
+    (λ e. rw e (apart (λ c. not-both (d .of c) e)))
 
-pair-is : (P : Points) (S : Choice) (i j : ℕ) → (P .row i ≡ P .row j → ⊥) → PairIs P S i j (pairClash P S i j)
-unfolding pairClash Conflict
-pair-is P S i j ne =
-    decide (S i)
-    (λ a. decide (S j)
-    (λ b. rw (a, b) (pair-if P S i j Labels (dec-overlap P i j) (λ o. rw (a, b) o) (λ c. rw (a, b) at c) (a, b)))
-    (λ b. rw (a, b) (pair-if P S i j LabelAndLeader (dec-hits P i j) (λ o. rw (a, b) o) (λ c. rw (a, b) at c) (inl (a, b)))))
-    (λ a. decide (S j)
-    (λ b. rw (a, b) (pair-if P S i j LabelAndLeader (dec-hits P j i) (λ o. rw (a, b) o) (λ c. rw (a, b) at c) (inr (a, b))))
-    (λ b. rw (a, b) (apart (λ c. ne (rw (a, b) at c)))))
+is-none : {P : Points} {S : Choice} {i j : ℕ} {c : Clash} → ClashIs P S i j c → c ≡ None → Clashing P S i j → ⊥
+is-none (apart not) e = not
+is-none (met c kind) e = absurd (none-between e refl)
 
-pair-none : {P : Points} {S : Choice} {i j : ℕ} {c : Clash} → PairIs P S i j c → c ≡ None → Conflict P S i j → ⊥
-pair-none (apart not) e = not
-pair-none (met c kind) e = absurd (none-between e refl)
+none-is : {P : Points} {S : Choice} {i j : ℕ} {c : Clash} → ClashIs P S i j c → (Clashing P S i j → ⊥) → c ≡ None
+none-is (apart not) y = refl
+none-is (met c kind) y = absurd (y c)
 
-pair-met : {P : Points} {S : Choice} {i j a b : ℕ} {k : ClashKind} {c : Clash} → PairIs P S i j c → c ≡ Between a b k
-    → (i ≡ a) × (j ≡ b) × Conflict P S i j × KindOf k (S i) (S j)
-pair-met (apart not) e = absurd (none-between refl e)
-pair-met {P} {S} {i} {j} {a} {b} {k} (met {k = m} c kind) e =
+is-met : {P : Points} {S : Choice} {i j a b : ℕ} {k : ClashKind} {c : Clash} → ClashIs P S i j c → c ≡ Between a b k
+    → (i ≡ a) × (j ≡ b) × Clashing P S i j × KindOf k S i j
+is-met (apart not) e = absurd (none-between refl e)
+is-met {P} {S} {i} {j} {a} {b} {k} (met {k = m} c kind) e =
     let q : m ≡ k = cc in
     (cc, cc, c, rw q at kind)
 
--- only two inside points clash by their labels
-labels-both : (k : ClashKind) {a b : Bool} → KindOf k a b → (k ≡ Labels) ↔ ((a ≡ true) × (b ≡ true))
-labels-both Labels y = (λ e. y, λ z. refl)
-labels-both LabelAndLeader (inl y) = (λ e. let z : _≡_ {A = ℕ} 0 1 = cc in absurd (omega arith), λ z. absurd (not-both (z .1) (y .1)))
-labels-both LabelAndLeader (inr y) = (λ e. let z : _≡_ {A = ℕ} 0 1 = cc in absurd (omega arith), λ z. absurd (not-both (z .0) (y .0)))
+-- of a position with itself
+own-is : (P : Points) (S : Choice) (i : ℕ) → ClashIs P S i i (ownClash P S i)
+unfolding ownClash
+own-is P S i =
+    decide (S i)
+    (λ a. rw a (clash-if P S i i Overhang (dec-map (λ f. inl (refl, (a, f))) off (dec-not (dec-label-on-map P i))) refl))
+    (λ a. rw a (apart (none a)))
+  where
+    off : Clashing P S i i → LabelOnMap P i → ⊥
+    off (inl x) = x .1 .1
+    off (inr x) = absurd (x .0 refl)
 
--- a kind is fixed by which of the two are inside
-kind-once : (k m : ClashKind) (a b : Bool) → KindOf k a b → KindOf m a b → k ≡ m
-kind-once Labels Labels a b x y = refl
-kind-once Labels LabelAndLeader a b x (inl y) = absurd (not-both (x .1) (y .1))
-kind-once Labels LabelAndLeader a b x (inr y) = absurd (not-both (x .0) (y .0))
-kind-once LabelAndLeader Labels a b (inl x) y = absurd (not-both (y .1) (x .1))
-kind-once LabelAndLeader Labels a b (inr x) y = absurd (not-both (y .0) (x .0))
-kind-once LabelAndLeader LabelAndLeader a b x y = refl
-
--- THE PAIR THAT DOCUMENT 01 NAMES: i and j, with the kind k, share a pixel, and no pair before it, by the first position and then by
--- the second, does.
-pub record Named (P : Points) (S : Choice) (i j : ℕ) (k : ClashKind) : Type 0 where
-  pub ordered : i < j
-  pub below : j < P .n
-  pub shared : Shared P S i j
-  pub kind : KindOf k (S i) (S j)
-  pub labels : (k ≡ Labels) ↔ ((S i ≡ true) × (S j ≡ true))
-  pub earlier : (a b : ℕ) → a < b → b < P .n → (a < i) ⊎ ((a ≡ i) × (b < j)) → Shared P S a b → ⊥
+    none : S i ≡ false → Clashing P S i i → ⊥
+    none a (inl x) = not-both (x .1 .0) a
+    none a (inr x) = x .0 refl
 
 module _ (P : Points) (S : Choice) (wide : 1 ≤ P .w) (d : DistinctRows P) where
-  pair : (i j : ℕ) → i < j → j < P .n → PairIs P S i j (pairClash P S i j)
-  pair i j l m = pair-is P S i j (λ e. let q : i ≡ j = d .apart i j (omega arith) m e in omega arith)
+  -- of two positions, which clash exactly if they conflict
+  pair-is : (i j : ℕ) → i < j → j < P .n → ClashIs P S i j (pairClash P S i j)
+  unfolding pairClash Conflict
+  pair-is i j l m =
+      decide (S i)
+      (λ a. decide (S j)
+      (λ b. rw (a, b) (pair-if Labels (dec-overlap P i j) (λ o. rw (a, b) o) (λ c. rw (a, b) at c) (differ, a, b)))
+      (λ b. rw (a, b) (pair-if LabelAndLeader (dec-hits P i j) (λ o. rw (a, b) o) (λ c. rw (a, b) at c) (inl (a, b)))))
+      (λ a. decide (S j)
+      (λ b. rw (a, b) (pair-if LabelAndLeader (dec-hits P j i) (λ o. rw (a, b) o) (λ c. rw (a, b) at c) (inr (a, b))))
+      (λ b. rw (a, b) (apart (λ x. one-row a b (of x)))))
+    where
+      differ : i ≡ j → ⊥
+      differ e = omega arith
 
-  -- a clash of i that is none leaves it apart from every later position
-  later-apart : (i : ℕ) → clashOf P S i ≡ None → (j : ℕ) → i < j → j < P .n → Conflict P S i j → ⊥
+      to : Conflict P S i j → Clashing P S i j
+      to c = inr (differ, conflict-shared P S i j wide c)
+
+      of : Clashing P S i j → Conflict P S i j
+      of (inl x) = absurd (differ (x .0))
+      of (inr x) = shared-conflict P S (x .1 .0) i j (omega arith) m (x .1 .1) (x .1 .2)
+
+      -- by the test that decides whether they conflict
+      pair-if : (k : ClashKind) {b : Bool} {A : Type 0}
+          → Decides b A → (A → Conflict P S i j) → (Conflict P S i j → A) → KindOf k S i j → ClashIs P S i j (clashIf b i j k)
+      pair-if k t f g kind = clash-if P S i j k (dec-map (λ x. to (f x)) (λ x. g (of x)) t) kind
+
+      one-row : S i ≡ false → S j ≡ false → Conflict P S i j → ⊥
+      one-row a b c = differ (d .apart i j (omega arith) m (rw (a, b) at c))
+
+  -- of a first position and a second that isn't below it
+  ordered-is : (i j : ℕ) → i ≤ j → j < P .n → ClashIs P S i j (orderedClash P S i j)
+  ordered-is i j l m =
+      less i j
+      (λ u. rw (lt-ltb i j u) (pair-is i j u m))
+      (λ g. let q : i ≡ j = omega arith in rw (le-ltb i j g, eq-eqb i j q, ← q) (own-is P S i))
+
+  -- a clash of i that is none leaves it apart from every position from i on
+  none-from : (i : ℕ) → clashOf P S i ≡ None → (j : ℕ) → i ≤ j → j < P .n → Clashing P S i j → ⊥
   unfolding clashOf
-  later-apart i e j l m =
-      let o : cond (ltb i j) (pairClash P S i j) None ≡ None = none-first (orderedClash P S i) (P .n) e j m in
-      pair-none (pair i j l m) (rw (lt-ltb i j l) at o)
+  none-from i e j l m = is-none (ordered-is i j l m) (none-first (orderedClash P S i) (P .n) e j m)
 
-  none-free : firstClash P S ≡ None → Free P S
+  none-clashing : firstClash P S ≡ None → (i j : ℕ) → i ≤ j → j < P .n → Clashing P S i j → ⊥
   unfolding firstClash
-  none-free e = record {
-    apart = λ i j l m ne c.
-        decide (ltb i j)
-        (λ t. later-apart i (none i l) j (ltb-true i j t) m c)
-        (λ t. let g : j ≤ i = ltb-false i j t in later-apart j (none j m) i (omega arith) l (conflict-sym P S i j c));
+  none-clashing e i j l m = none-from i (none-first (clashOf P S) (P .n) e i (omega arith)) j l m
+
+  -- a choice in which nothing clashes is valid
+  apart-valid : ((i j : ℕ) → i ≤ j → j < P .n → Clashing P S i j → ⊥) → Valid P S
+  apart-valid f = record {
+    apart = λ p i j l m ne x y.
+        less i j (λ u. f i j (omega arith) m (inr (ne, (p, x, y)))) (λ g. f j i g l (inr (λ q. ne (sym q), (p, y, x))));
+    within = λ i l t.
+        decide (labelOnMapB P i) (dec-label-on-map P i .is)
+        (λ e. absurd (f i i (omega arith) l (inl (refl, (t, λ o. not-both (dec-label-on-map P i .of o) e)))));
   }
-    where
-      none : (i : ℕ) → i < P .n → clashOf P S i ≡ None
-      none = none-first (clashOf P S) (P .n) e
 
-  -- a pair free of conflict has no clash
-  free-pair : Free P S → (i j : ℕ) → j < P .n → orderedClash P S i j ≡ None
-  free-pair f i j m =
-      decide (ltb i j)
-      (λ t. let l : i < j = ltb-true i j t in rw t (none-of (pair i j l m) (f .apart i j (omega arith) m (λ q. omega arith))))
-      (λ t. rw t refl)
-    where
-      none-of : {c : Clash} → PairIs P S i j c → (Conflict P S i j → ⊥) → c ≡ None
-      none-of (apart not) y = refl
-      none-of (met c kind) y = absurd (y c)
+  -- and the other way
+  valid-apart : Valid P S → (i j : ℕ) → i ≤ j → j < P .n → Clashing P S i j → ⊥
+  valid-apart v i j l m (inl x) = x .1 .1 (v .within i (omega arith) (x .1 .0))
+  valid-apart v i j l m (inr x) = v .apart (x .1 .0) i j (omega arith) m (x .0) (x .1 .1) (x .1 .2)
 
-  free-none : Free P S → firstClash P S ≡ None
+  valid-none : Valid P S → firstClash P S ≡ None
   unfolding firstClash clashOf
-  free-none f = first-none (clashOf P S) (P .n) (λ i l. first-none (orderedClash P S i) (P .n) (free-pair f i))
+  valid-none v = first-none (clashOf P S) (P .n) (λ i l. first-none (orderedClash P S i) (P .n) (ordered i))
+    where
+      ordered : (i j : ℕ) → j < P .n → orderedClash P S i j ≡ None
+      ordered i j m =
+          less j i
+          (λ u. rw (le-ltb i j (omega arith), ne-eqb i j (λ q. omega arith)))
+          (λ l. none-is (ordered-is i j l m) (valid-apart v i j l m))
 
   -- NONE EXACTLY IF THE CHOICE IS VALID
   pub none-valid : (firstClash P S ≡ None) ↔ Valid P S
-  none-valid = (λ e. free-valid P S (none-free e), λ v. free-none (valid-free P S wide v))
+  none-valid = (λ e. apart-valid (none-clashing e), valid-none)
 
-  -- a pair that comes before i and j
+  -- nothing clashes before i and j
   apart-before : {i j : ℕ} → ((a : ℕ) → a < i → clashOf P S a ≡ None) → ((b : ℕ) → b < j → orderedClash P S i b ≡ None)
-      → (a b : ℕ) → a < b → b < P .n → (a < i) ⊎ ((a ≡ i) × (b < j)) → Conflict P S a b → ⊥
-  apart-before f g a b l m (inl y) c = later-apart a (f a y) b l m c
-  apart-before {i} {j} f g a b l m (inr y) c =
-      let o : cond (ltb i b) (pairClash P S i b) None ≡ None = g b (y .1) in
-      let t : i < b = omega arith in
-      pair-none (pair i b t m) (rw (lt-ltb i b t) at o) (rw (y .0) at c)
+      → (a b : ℕ) → a ≤ b → b < P .n → (a < i) ⊎ ((a ≡ i) × (b < j)) → Clashing P S a b → ⊥
+  apart-before f g a b l m (inl y) c = none-from a (f a y) b l m c
+  apart-before {i} {j} f g a b l m (inr y) c = is-none (ordered-is a b l m) (rw (y .0) (g b (y .1))) c
 
   between-named : {i j : ℕ} {k : ClashKind} → firstClash P S ≡ Between i j k → Named P S i j k
   unfolding firstClash clashOf
@@ -196,51 +243,47 @@ module _ (P : Points) (S : Choice) (wide : 1 ≤ P .w) (d : DistinctRows P) wher
       named : (a b : ℕ) → b < P .n → orderedClash P S a b ≡ Between i j k → ((c : ℕ) → c < a → clashOf P S c ≡ None)
           → ((c : ℕ) → c < b → orderedClash P S a c ≡ None) → Named P S i j k
       named a b m q f g =
-          decide (ltb a b)
-          (λ t. let l : a < b = ltb-true a b t in
-          let p = pair-met (pair a b l m) (rw t at q) in
+          less b a
+          (λ u. absurd (none-between (rw (le-ltb a b (omega arith), ne-eqb a b (λ q. omega arith))) q))
+          (λ l. let p = is-met (ordered-is a b l m) q in
           let r : Named P S a b k = record {
             ordered = l;
             below = m;
-            shared = conflict-shared P S a b wide (p .2);
-            kind = p .3;
-            labels = labels-both k (p .3);
-            earlier = λ c d u v w s. apart-before f g c d u v w (shared-conflict P S (s .0) c d (omega arith) v (s .1) (s .2));
+            clashing = p .2;
+            kind = λ z. (λ e. rw e at p .3, kind-once k z S a b (p .3));
+            earlier = apart-before f g;
           } in rw (p .0, p .1) at r)
-          (λ t. absurd (none-between refl (rw t at q)))
 
-  -- no pair that is named comes before another
+  -- no clash that is named comes before another
   named-least : {i j a b : ℕ} {k m : ClashKind} → Named P S i j k → Named P S a b m → (a < i) ⊎ ((a ≡ i) × (b < j)) → ⊥
-  named-least {i} {j} {a} {b} x y o = x .earlier a b (y .ordered) (y .below) o (y .shared)
+  named-least {i} {j} {a} {b} x y o = x .earlier a b (y .ordered) (y .below) o (y .clashing)
 
-  -- so two pairs that are named are one
+  -- so two clashes that are named are one
   named-once : {i j a b : ℕ} {k m : ClashKind} → Named P S i j k → Named P S a b m → Between i j k ≡ Between a b m
   named-once {i} {j} {a} {b} {k} {m} x y =
       same i a
       (λ p. same j b
-      (λ q. let r : k ≡ m = kind-once k m (S i) (S j) (x .kind) (rw (p, q) (y .kind)) in cc)
-      (λ ne. decide (ltb j b)
-      (λ t. absurd (named-least y x (inr (p, ltb-true j b t))))
-      (λ t. let g : b ≤ j = ltb-false j b t in absurd (named-least x y (inr (sym p, omega arith))))))
-      (λ ne. decide (ltb i a)
-      (λ t. absurd (named-least y x (inl (ltb-true i a t))))
-      (λ t. let g : a ≤ i = ltb-false i a t in absurd (named-least x y (inl (omega arith)))))
+      (λ q. let r : k ≡ m = x .kind m .1 (rw (p, q) (y .kind m .0 refl)) in cc)
+      (λ ne. less j b
+      (λ l. absurd (named-least y x (inr (p, l))))
+      (λ g. absurd (named-least x y (inr (sym p, omega arith))))))
+      (λ ne. less i a
+      (λ l. absurd (named-least y x (inl l)))
+      (λ g. absurd (named-least x y (inl (omega arith)))))
 
   named-between : {i j : ℕ} {k : ClashKind} → Named P S i j k → firstClash P S ≡ Between i j k
   named-between {i} {j} {k} x = which (firstClash P S) refl
     where
       which : (c : Clash) → firstClash P S ≡ c → firstClash P S ≡ Between i j k
-      which None e =
-          absurd (none-valid .0 e .apart (x .shared .0) i j (omega (arith, x .ordered, x .below))
-          (x .below) (λ q. omega (arith, x .ordered)) (x .shared .1) (x .shared .2))
+      which None e = absurd (none-clashing e i j (x .ordered) (x .below) (x .clashing))
       which (Between a b m) e = e ∙ named-once (between-named e) x
 
-  -- A PAIR EXACTLY IF DOCUMENT 01 NAMES IT
+  -- A CLASH EXACTLY IF THE DOCUMENTS NAME IT
   pub between-iff : (i j : ℕ) (k : ClashKind) → (firstClash P S ≡ Between i j k) ↔ Named P S i j k
   between-iff i j k = (between-named, named-between)
 
--- THE THEOREM: on an accepted sheet the first clash is none exactly if no pixel is marked by two points, and it is a pair with a kind
--- exactly if document 01 names that pair and that kind.
+-- THE THEOREM: on an accepted sheet the first clash is none exactly if no pixel is marked by two points and no inside label leaves the map,
+-- and it is two positions with a kind exactly if the documents name them and that kind.
 pub record FirstClashRight (P : Points) (S : Choice) : Type 0 where
   pub none : (firstClash P S ≡ None) ↔ Valid P S
   pub between : (i j : ℕ) (k : ClashKind) → (firstClash P S ≡ Between i j k) ↔ Named P S i j k

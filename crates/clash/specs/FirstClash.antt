@@ -1,12 +1,14 @@
--- The first clash of a choice and its kind (document 01, "The desk"), by tests on any points and any choice. ClashPixels.antt shows
--- that on an accepted sheet these are the first two points that mark one pixel. Assumes nothing.
-use mathlib.Core.Bool.{Bool, true, false, cond}
+-- The first clash of a choice and its kind (document 01, "The desk", and document 02 (a)), by tests on any points and any choice.
+-- ClashPixels.antt shows that on an accepted sheet it is the first of the labels that leave the map and the pairs of points that mark one
+-- pixel. Assumes nothing.
+use mathlib.Core.Bool.{Bool, true, false, cond, not}
 use Prim.Native.Nat.{ℕ, zero, suc}
-use lib.Dec.{ltb}
+use lib.Dec.{ltb, eqb}
 use Rattle.labeling.specs.Points.{Points, Choice}
+use Rattle.labeling.specs.Marks.{labelOnMapB}
 use Rattle.labeling.specs.Conflicts.{overlapB, hitsB}
 use Rattle.clash.specs.declared.ClashKind.{ClashKind}
-use Rattle.clash.specs.declared.ClashKind.the-variants.{Labels, LabelAndLeader}
+use Rattle.clash.specs.declared.ClashKind.the-variants.{Labels, LabelAndLeader, Overhang}
 use Rattle.clash.specs.declared.Clash.{Clash}
 use Rattle.clash.specs.declared.Clash.the-variants.{None, Between}
 
@@ -32,16 +34,21 @@ pairClash P S i j =
     (cond (S j) (clashIf (overlapB P i j) i j Labels) (clashIf (hitsB P i j) i j LabelAndLeader))
     (cond (S j) (clashIf (hitsB P j i) i j LabelAndLeader) None)
 
+-- Document 02 (a): "an overhang counts as a clash of a position with itself and gets its own kind". Only an inside label overhangs.
+unfoldable pub ownClash : Points → Choice → ℕ → Clash
+ownClash P S i = cond (S i) (clashIf (not (labelOnMapB P i)) i i Overhang) None
+
 -- The first clash among f 0, f 1, and so on to f (m - 1).
 unfoldable pub firstOf : (ℕ → Clash) → ℕ → Clash
 firstOf f zero = None
 firstOf f (suc m) = orElse (firstOf f m) (f m)
 
--- "first below second": the clash of i with j, where i is below j.
+-- "first below second": the clash of i with j, where i is below j. And document 02 (a): an overhang "takes part in the order of clashes,
+-- first and second position being equal".
 abbrev pub orderedClash : Points → Choice → ℕ → ℕ → Clash
-orderedClash P S i j = cond (ltb i j) (pairClash P S i j) None
+orderedClash P S i j = cond (ltb i j) (pairClash P S i j) (cond (eqb i j) (ownClash P S i) None)
 
--- The clash of position i with "the smallest second".
+-- The clash of position i with "the smallest second": i itself comes before those above it.
 unfoldable pub clashOf : Points → Choice → ℕ → Clash
 clashOf P S i = firstOf (orderedClash P S i) (P .n)
 

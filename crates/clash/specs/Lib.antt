@@ -2,5 +2,5 @@
 pub mod FirstClash
 -- A choice as flags, which contracts of the steps cite, with its facts.
 pub mod ChoiceFlags
--- THEOREM: on an accepted sheet, the first clash is that of the first two points that mark one pixel.
+-- THEOREM: on an accepted sheet, the first clash is the first of the labels that leave the map and the pairs of points that mark one pixel.
 pub mod ClashPixels

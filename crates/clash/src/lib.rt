@@ -1,6 +1,7 @@
 // The first clash of a choice.
 use format::column;
 use format::label_height;
+use format::label_on_map;
 use format::label_width;
 use format::point_count;
 use format::row;
@@ -11,16 +12,17 @@ ghost use Rattle.labeling.specs.Conflicts.{overlapB, hitsB};
 ghost use Rattle.format.specs.Sheet.{pointCount, pointsOf};
 ghost use Rattle.format.specs.Plate.{choiceOf};
 ghost use Rattle.format.specs.Stretches.{stretchesOverlap};
-ghost use Rattle.clash.specs.FirstClash.{isClash, clashIf, pairClash, clashOf, firstClash};
+ghost use Rattle.clash.specs.FirstClash.{isClash, clashIf, pairClash, ownClash, clashOf, firstClash};
 ghost use Rattle.clash.specs.ChoiceFlags.{nobodyInside, held, flagsOf};
 
-// Whether two labels met or a label met a leader.
+// Whether two labels met, a label met a leader, or a label leaves the map.
 pub enum ClashKind {
     Labels,
     LabelAndLeader,
+    Overhang,
 }
 
-// No clash, or the two positions that clash and how.
+// No clash, or the two positions that clash and how. An overhang is a clash of a position with itself.
 pub enum Clash {
     None,
     Between {
@@ -143,11 +145,31 @@ fn pair_clash(sheet: &[u8], inside: &[bool; 256], i: u8, j: u8) -> Clash
     Clash::None
 }
 
-// The clash of a position with the smallest position above it.
+// The clash of a position with itself: it is inside and its label leaves the map.
+fn own_clash(sheet: &[u8], inside: &[bool; 256], position: u8) -> Clash
+    ensures { λ r. ⌜ r ≡ ownClash (pointsOf (now (sheet .entry))) (held (now (inside .entry))) position ⌝ }
+{
+    let is_inside = inside[position as usize];
+    if is_inside {
+        return clash_if(
+            !label_on_map(sheet, position),
+            position,
+            position,
+            ClashKind::Overhang,
+        );
+    }
+    Clash::None
+}
+
+// The clash of a position with itself, or else with the smallest position above it.
 fn clash_of(sheet: &[u8], inside: &[bool; 256], first: u8) -> Clash
     requires { ⌜ first < pointCount (now sheet) ⌝ }
     ensures { λ r. ⌜ r ≡ clashOf (pointsOf (now (sheet .entry))) (held (now (inside .entry))) first ⌝ }
 {
+    let own = own_clash(sheet, inside, first);
+    if is_clash(own) {
+        return own;
+    }
     let n = point_count(sheet);
     let mut second = first + 1;
     while second < n {
