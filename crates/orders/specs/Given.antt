@@ -5,6 +5,8 @@ use mathlib.Core.List.{List}
 use Prim.Native.Nat.{ℕ, _≤_}
 use lib.Dec.{eqb}
 use native.Mathlib.Omega.{arith}
+use Rattle.labeling.specs.Marks.{labelOnMapB}
+use Rattle.labeling.specs.Tests.{dec-label-on-map}
 use Rattle.labeling.specs.Best.{oneEach}
 use Rattle.labeling.specs.Positions.{Permits}
 use Rattle.format.specs.Sheet.{pointsOf}
@@ -17,9 +19,9 @@ weightOf sheet p = 1
 abbrev pub heaviest : ℕ
 heaviest = 1
 
--- Position p of a sheet may be inside: each may.
+-- Position p of a sheet may be inside. Document 02 (a): "an inside label must lie wholly on the map".
 unfoldable pub permitted : List ℕ → ℕ → Bool
-permitted sheet p = true
+permitted sheet p = labelOnMapB (pointsOf sheet) p
 
 -- A permission as a cell has it.
 abbrev pub permission : Bool → ℕ
@@ -40,10 +42,13 @@ pub weight-most : (sheet : List ℕ) (p : ℕ) → weightOf sheet p ≤ heaviest
 unfolding weightOf
 weight-most sheet p = omega arith
 
--- The permissions keep no valid choice out.
+-- The permissions keep no valid choice out, and let no label leave the map.
 pub permits : (sheet : List ℕ) → Permits (pointsOf sheet) (permitted sheet)
 unfolding permitted
-permits sheet = record { needed = λ S f p l e. refl }
+permits sheet = record {
+  needed = λ S f p l e. dec-label-on-map (pointsOf sheet) p .of (f .within p l e);
+  enough = λ p l e. dec-label-on-map (pointsOf sheet) p .is e;
+}
 
 pub permission-read : (b : Bool) → eqb (permission b) 1 ≡ b
 permission-read true = refl

@@ -10,6 +10,7 @@ use crate::PointArray;
 use crate::height_order::position_after;
 use crate::layout::FIRST_ALLOWED;
 use crate::layout::FIRST_WEIGHT;
+use format::label_on_map;
 
 // The weight of a position: each weighs 1.
 fn weight_of(sheet: &[u8], position: u8) -> u64
@@ -18,11 +19,14 @@ fn weight_of(sheet: &[u8], position: u8) -> u64
     1
 }
 
-// The permission of a position to be inside, 1 or 0: each has it.
+// The permission of a position to be inside, 1 or 0: its label is on the map.
 fn permission_of(sheet: &[u8], position: u8) -> u16
     ensures { λ r. ⌜ r ≡ permission (permitted (now (sheet .entry)) position) ⌝ }
 {
-    1
+    if label_on_map(sheet, position) {
+        return 1;
+    }
+    0
 }
 
 // Stores a number of 64 bits in the four cells of a place.
