@@ -62,14 +62,14 @@ pub record LoadRight (calls : Calls) (s w : List ℕ) : Type 0 where
 
 -- What the verdict on the list l of the sheet s says.
 pub record VerdictRight (s l : List ℕ) (v : VerdictOutcome) : Type 0 where
-  -- "the desk calls C valid exactly when no pixel has two marks"
+  -- "the desk calls C valid exactly when no pixel has two marks"; document 02 (a): "also ... that no inside label leaves the map"
   pub valid-exactly : (v .valid ≡ true) ↔ Valid (pointsOf s) (choiceOfList l)
   -- "a valid C is answered with C's count and, as its shortfall, the best count less C's count",
   pub valid : Valid (pointsOf s) (choiceOfList l) → v ≡ validOutcome (listCount l) (bestCount (pointsOf s) - listCount l)
   -- which is not above the best count
   pub at-most : Valid (pointsOf s) (choiceOfList l) → listCount l ≤ bestCount (pointsOf s)
   -- "and for any other C the desk names the clash that document 01 fixes": the smallest first position, then the smallest second, that
-  -- share a pixel, with the kind labels exactly if both are inside (Named, of clash's ClashPixels.antt)
+  -- share a pixel, or that are one position whose label leaves the map, with their kind (Named, of clash's ClashPixels.antt)
   pub clash : (first second : ℕ) (kind : ClashKind)
       → (v ≡ clashOutcome first second kind) ↔ Named (pointsOf s) (choiceOfList l) first second kind
 

@@ -94,8 +94,8 @@ loadOf d s w = loadResult d s (loadAnswerOf (loadNo s (length w)))
 
 -- MARK
 
--- What a verdict says: whether it calls the list valid; then "the list's count and its shortfall", or the "two positions and whether two
--- labels met or a label met a leader".
+-- What a verdict says: whether it calls the list valid; then "the list's count and its shortfall", or the "two positions" of a clash and
+-- its kind.
 pub record VerdictOutcome : Type 0 where
   pub valid : Bool
   pub count : Option ℕ

@@ -41,7 +41,7 @@ pub enum LoadAnswer {
     Refused(u8),
 }
 
-// What the desk says of a marked list: valid, with its count and its shortfall; or a clash, with two positions and how they met.
+// What the desk says of a marked list: valid, with its count and its shortfall; or a clash, with two positions and its kind.
 pub enum Verdict {
     Valid {
         count: u16,

@@ -1,4 +1,4 @@
--- Document 01's cases P1 to P10, from the sheet's bytes: one table, one theorem. What the theorem says is in the words of labeling
+-- Document 01's cases P1 to P10 and document 02's, from the sheet's bytes: one table, one theorem. What the theorem says is in the words of labeling
 -- (valid and best over pixels) and of format's Plate.antt; the tests only compute it. Assumes nothing.
 use mathlib.Core.Path.{_≡_, refl}
 use mathlib.Core.Bool.{Bool, true, false, _&&_}
@@ -8,7 +8,7 @@ use lib.Dec.{T, eqb}
 use borrow.Author.Tests.{eqb-true}
 use Rattle.labeling.specs.Points.{Points, Choice, before, insert, outsideBelow, outside, nextMargin, placedFrom, placed, among}
 use Rattle.labeling.specs.Marks.{Valid}
-use Rattle.labeling.specs.Conflicts.{conflictB, validB, every}
+use Rattle.labeling.specs.Conflicts.{conflictB, apartB, withinB, validB, every}
 use Rattle.labeling.specs.Decide.{not-both, and-left, and-right}
 use Rattle.labeling.specs.Pixels.{dec-valid}
 use Rattle.labeling.specs.Best.{weightBelow, weight, oneEach, OnlyBest, put}
@@ -19,10 +19,10 @@ use Rattle.format.specs.Plate.{choiceOf, insideBelow, insideSection, pairs, out
 use Rattle.format.specs.Bytes.{sameBytes, dec-bytes}
 use Rattle.format.specs.Ascending.{ascending}
 use Rattle.clash.specs.declared.ClashKind.{ClashKind}
-use Rattle.clash.specs.declared.ClashKind.the-variants.{Labels, LabelAndLeader}
+use Rattle.clash.specs.declared.ClashKind.the-variants.{Labels, LabelAndLeader, Overhang}
 use Rattle.clash.specs.declared.Clash.{Clash}
 use Rattle.clash.specs.declared.Clash.the-variants.{None, Between}
-use Rattle.clash.specs.FirstClash.{pairClash, firstOf, clashOf, firstClash}
+use Rattle.clash.specs.FirstClash.{pairClash, ownClash, firstOf, clashOf, firstClash}
 use Rattle.clash.specs.ClashPixels.{Named, first-clash-right}
 use Rattle.plate_reader.specs.PlateQuestions.{sheetOf, insideList, outsidePairs, sectionsFit, pairsRight, sectionsNo, plateNo}
 
@@ -58,6 +58,10 @@ sheet2 = sheet 4 3 3 (at 1 0 5 (at 2 6 6 (at 3 8 7 [])))
 
 abbrev pub sheet8 : List ℕ
 sheet8 = sheet 4 3 3 (at 1 5 10 (at 2 0 9 (at 3 2 7 [])))
+
+-- The start of a sheet with P1's map, 20 by 10, and P1's label, 4 by 2: point count.
+abbrev pub framed : ℕ → List ℕ → List ℕ
+framed n points = 1 ∷ 20 ∷ 0 ∷ 10 ∷ 0 ∷ 4 ∷ 0 ∷ 2 ∷ 0 ∷ n ∷ points
 
 -- Label 4 by 3, points (11,2), (8,6), (6,5), (5,4), (10,0).
 abbrev pub sheetOfFive : List ℕ
@@ -106,7 +110,61 @@ cases =
       added = 0 ∷ 3 ∷ 0 ∷ 0 ∷ 1 ∷ 1 ∷ 2 ∷ 0 ∷ [];
     } ∷
     -- P10: "n = 0: the plate adds 00 00"
-    record { sheet = sheet 4 2 0 []; inside = []; expected = onlyBest; added = 0 ∷ 0 ∷ [] } ∷ []
+    record { sheet = sheet 4 2 0 []; inside = []; expected = onlyBest; added = 0 ∷ 0 ∷ [] } ∷
+    -- document 02 (a): "With P1's map and label a point at (18,2) can then only be outside."
+    record { sheet = framed 1 (at 1 18 2 []); inside = []; expected = onlyBest; added = 0 ∷ 1 ∷ 0 ∷ 0 ∷ [] } ∷
+    -- the same point inside: "a clash of a position with itself"
+    record { sheet = framed 1 (at 1 18 2 []); inside = 0 ∷ []; expected = clashes 0 0 Overhang; added = 1 ∷ 0 ∷ 0 ∷ [] } ∷
+    -- (16,3) just touches the right edge, (5,8) the top edge: both inside
+    record { sheet = framed 2 (at 1 16 3 (at 2 5 8 [])); inside = 0 ∷ 1 ∷ []; expected = onlyBest; added = 2 ∷ 0 ∷ 1 ∷ 0 ∷ [] } ∷
+    -- (16,8) touches both
+    record { sheet = framed 1 (at 1 16 8 []); inside = 0 ∷ []; expected = onlyBest; added = 1 ∷ 0 ∷ 0 ∷ [] } ∷
+    -- (17,3) and (5,9), one pixel further: both outside
+    record { sheet = framed 2 (at 1 17 3 (at 2 5 9 [])); inside = []; expected = onlyBest; added = 0 ∷ 2 ∷ 1 ∷ 0 ∷ 0 ∷ 0 ∷ [] } ∷
+    -- (17,4) overhangs and its label meets that of (15,3): the overhang comes first
+    record {
+      sheet = framed 2 (at 1 17 4 (at 2 15 3 []));
+      inside = 0 ∷ 1 ∷ [];
+      expected = clashes 0 0 Overhang;
+      added = 2 ∷ 0 ∷ 1 ∷ 0 ∷ [];
+    } ∷
+    -- the two in the other order: the two labels come first
+    record { sheet = framed 2 (at 1 15 3 (at 2 17 4 [])); inside = 0 ∷ 1 ∷ []; expected = clashes 0 1 Labels; added = 2 ∷ 0 ∷ 1 ∷ 0 ∷ [] } ∷
+    -- (17,4) overhangs and its label meets the leader of (18,5): the overhang comes first
+    record {
+      sheet = framed 2 (at 1 17 4 (at 2 18 5 []));
+      inside = 0 ∷ [];
+      expected = clashes 0 0 Overhang;
+      added = 1 ∷ 0 ∷ 1 ∷ 1 ∷ 0 ∷ [];
+    } ∷
+    -- the two in the other order: label and leader come first, and (18,5), outside, does not overhang
+    record {
+      sheet = framed 2 (at 1 18 5 (at 2 17 4 []));
+      inside = 1 ∷ [];
+      expected = clashes 0 1 LabelAndLeader;
+      added = 1 ∷ 1 ∷ 1 ∷ 0 ∷ 0 ∷ [];
+    } ∷
+    -- (18,2), outside, does not overhang; (17,5), inside, does
+    record {
+      sheet = framed 2 (at 1 18 2 (at 2 17 5 []));
+      inside = 1 ∷ [];
+      expected = clashes 1 1 Overhang;
+      added = 1 ∷ 1 ∷ 1 ∷ 0 ∷ 0 ∷ [];
+    } ∷
+    -- (8,3) outside meets the label of (6,2); (18,5) between them overhangs: the pair with the smaller first position comes first
+    record {
+      sheet = framed 3 (at 1 8 3 (at 2 18 5 (at 3 6 2 [])));
+      inside = 1 ∷ 2 ∷ [];
+      expected = clashes 0 2 LabelAndLeader;
+      added = 2 ∷ 1 ∷ 2 ∷ 1 ∷ 0 ∷ 0 ∷ [];
+    } ∷
+    -- (2,8) is clear; (17,4) overhangs and meets (15,3): the overhang comes before the pair with the same first position
+    record {
+      sheet = framed 3 (at 1 2 8 (at 2 17 4 (at 3 15 3 [])));
+      inside = 0 ∷ 1 ∷ 2 ∷ [];
+      expected = clashes 1 1 Overhang;
+      added = 3 ∷ 0 ∷ 1 ∷ 2 ∷ 0 ∷ [];
+    } ∷ []
 
 -- WHAT A CASE SAYS
 
@@ -136,8 +194,13 @@ Each (c ∷ cs) = Right c × Each cs
 abbrev sameKind : ClashKind → ClashKind → Bool
 sameKind Labels Labels = true
 sameKind Labels LabelAndLeader = false
+sameKind Labels Overhang = false
 sameKind LabelAndLeader Labels = false
 sameKind LabelAndLeader LabelAndLeader = true
+sameKind LabelAndLeader Overhang = false
+sameKind Overhang Labels = false
+sameKind Overhang LabelAndLeader = false
+sameKind Overhang Overhang = true
 
 abbrev sameClash : Clash → ℕ → ℕ → ClashKind → Bool
 sameClash None i j k = false
@@ -163,8 +226,13 @@ eachB (c ∷ cs) = rightB c && eachB cs
 same-kind : (m k : ClashKind) → sameKind m k ≡ true → m ≡ k
 same-kind Labels Labels e = refl
 same-kind Labels LabelAndLeader e = absurd (not-both e refl)
+same-kind Labels Overhang e = absurd (not-both e refl)
 same-kind LabelAndLeader Labels e = absurd (not-both e refl)
 same-kind LabelAndLeader LabelAndLeader e = refl
+same-kind LabelAndLeader Overhang e = absurd (not-both e refl)
+same-kind Overhang Labels e = absurd (not-both e refl)
+same-kind Overhang LabelAndLeader e = absurd (not-both e refl)
+same-kind Overhang Overhang e = refl
 
 same-clash : (c : Clash) (i j : ℕ) (k : ClashKind) → sameClash c i j k ≡ true → c ≡ Between i j k
 same-clash None i j k e = absurd (not-both e refl)
@@ -202,7 +270,7 @@ each (c ∷ cs) e = (right c (and-left _ _ e), each cs (and-right (rightB c) _ e
 all-pass : T (eachB cases)
 unfolding twoBytes unlikeEarlier pointNo pointsNo questionsNo sheetNo plateSheetNo insideBelow insideSection
     pairs outsideSection plateOf among before insert outsideBelow outside nextMargin placedFrom placed conflictB
-    validB every weightBelow weight put everyChoice agreeB behindB onlyBestB pairClash firstOf clashOf
+    apartB withinB validB every weightBelow weight put everyChoice agreeB behindB onlyBestB pairClash ownClash firstOf clashOf
     firstClash sheetOf insideList outsidePairs sectionsFit ascending pairsRight sectionsNo plateNo
 all-pass = tt
 
