@@ -4,7 +4,7 @@ use mathlib.Core.List.{List, _++_}
 use Prim.Native.Nat.{ℕ}
 use Rattle.format.specs.Sheet.{pointCount}
 use Rattle.clash.specs.declared.ClashKind.{ClashKind}
-use Rattle.clash.specs.declared.ClashKind.the-variants.{Labels, LabelAndLeader}
+use Rattle.clash.specs.declared.ClashKind.the-variants.{Labels, LabelAndLeader, Overhang}
 use Rattle.desk.specs.declared.Desk.{Desk}
 use Rattle.desk.specs.declared.LoadAnswer.{LoadAnswer}
 use Rattle.desk.specs.declared.LoadAnswer.the-variants.{Accepted, Refused}
@@ -27,16 +27,17 @@ abbrev pub loadLine : LoadAnswer → Desk → List ℕ
 loadLine Accepted d = loadedLine d
 loadLine (Refused k) d = refusalLine k
 
--- "whether two labels met or a label met a leader"
+-- "whether two labels met or a label met a leader"; an overhang "gets its own kind" (document 02 (a))
 abbrev pub kindWord : ClashKind → List ℕ
 kindWord Labels = ascii " labels"
 kindWord LabelAndLeader = ascii " leader"
+kindWord Overhang = ascii " overhang"
 
 -- "valid, with the list's count and its shortfall"
 unfoldable pub validText : ℕ → ℕ → List ℕ
 validText count shortfall = ascii " valid" ++ spaced count ++ spaced shortfall
 
--- "a clash, with two positions and whether two labels met or a label met a leader"
+-- "a clash, with two positions" and its kind
 unfoldable pub clashText : ℕ → ℕ → ClashKind → List ℕ
 clashText first second kind = ascii " clash" ++ spaced first ++ spaced second ++ kindWord kind
 

@@ -1,9 +1,17 @@
 -- How many bytes are enough for what is printed. Assumes nothing.
 use Prim.Native.Nat.{ℕ, _+_, _*_}
 
+-- For the word of a clash's kind.
+abbrev pub kindRoom : ℕ
+kindRoom = 9
+
+-- For a verdict.
+abbrev pub verdictRoom : ℕ
+verdictRoom = 27
+
 -- For every line but those of a listing.
 abbrev pub lineRoom : ℕ
-lineRoom = 31
+lineRoom = 33
 
 -- For line one of a listing.
 abbrev pub firstLineRoom : ℕ

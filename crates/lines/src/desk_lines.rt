@@ -8,7 +8,7 @@ use desk::Desk;
 use desk::Verdict;
 ghost use Prim.Native.Nat.{_+_, _≤_};
 ghost use lib.ListN.{length};
-ghost use Rattle.lines.specs.Rooms.{lineRoom};
+ghost use Rattle.lines.specs.Rooms.{kindRoom, verdictRoom, lineRoom};
 ghost use Rattle.lines.specs.DeskLines.{refusalLine, loadedLine, kindWord, validText, clashText, verdictText, markedLine};
 ghost use Rattle.lines.specs.Writing.{Put};
 
@@ -34,18 +34,19 @@ pub(crate) fn put_loaded(text: &mut [u8], desk: Desk) -> usize
 }
 
 fn put_kind(text: &mut [u8], at: usize, kind: ClashKind) -> usize
-    requires { ⌜ at + 7 ≤ length (now text) ⌝ }
-    ensures { λ r. ⌜ Put 7 (now (text .entry)) at (kindWord kind) r (now (text .exit)) ⌝ }
+    requires { ⌜ at + kindRoom ≤ length (now text) ⌝ }
+    ensures { λ r. ⌜ Put kindRoom (now (text .entry)) at (kindWord kind) r (now (text .exit)) ⌝ }
 {
     match kind {
         ClashKind::Labels => put_word(text, at, b" labels"),
         ClashKind::LabelAndLeader => put_word(text, at, b" leader"),
+        ClashKind::Overhang => put_word(text, at, b" overhang"),
     }
 }
 
 fn put_valid(text: &mut [u8], at: usize, count: u16, shortfall: u16) -> usize
-    requires { ⌜ at + 25 ≤ length (now text) ⌝ }
-    ensures { λ r. ⌜ Put 25 (now (text .entry)) at (validText count shortfall) r (now (text .exit)) ⌝ }
+    requires { ⌜ at + verdictRoom ≤ length (now text) ⌝ }
+    ensures { λ r. ⌜ Put verdictRoom (now (text .entry)) at (validText count shortfall) r (now (text .exit)) ⌝ }
 {
     let word = put_word(text, at, b" valid");
     let counted = put_number(text, word, count);
@@ -53,8 +54,8 @@ fn put_valid(text: &mut [u8], at: usize, count: u16, shortfall: u16) -> usize
 }
 
 fn put_clash(text: &mut [u8], at: usize, first: u8, second: u8, kind: ClashKind) -> usize
-    requires { ⌜ at + 25 ≤ length (now text) ⌝ }
-    ensures { λ r. ⌜ Put 25 (now (text .entry)) at (clashText first second kind) r (now (text .exit)) ⌝ }
+    requires { ⌜ at + verdictRoom ≤ length (now text) ⌝ }
+    ensures { λ r. ⌜ Put verdictRoom (now (text .entry)) at (clashText first second kind) r (now (text .exit)) ⌝ }
 {
     let word = put_word(text, at, b" clash");
     let one = put_number(text, word, first as u16);
@@ -63,8 +64,8 @@ fn put_clash(text: &mut [u8], at: usize, first: u8, second: u8, kind: ClashKind)
 }
 
 fn put_verdict(text: &mut [u8], at: usize, verdict: Verdict) -> usize
-    requires { ⌜ at + 25 ≤ length (now text) ⌝ }
-    ensures { λ r. ⌜ Put 25 (now (text .entry)) at (verdictText verdict) r (now (text .exit)) ⌝ }
+    requires { ⌜ at + verdictRoom ≤ length (now text) ⌝ }
+    ensures { λ r. ⌜ Put verdictRoom (now (text .entry)) at (verdictText verdict) r (now (text .exit)) ⌝ }
 {
     match verdict {
         Verdict::Valid { count, shortfall } => put_valid(text, at, count, shortfall),

@@ -22,7 +22,7 @@ mod sections;
 mod text;
 
 // Room for every line but those of a listing.
-pub const LINE_ROOM: usize = 31;
+pub const LINE_ROOM: usize = 33;
 
 // Room for every listing: line one has at most 24 bytes, and each of at most 255 points at most 16.
 const LISTING_ROOM: usize = 4104;

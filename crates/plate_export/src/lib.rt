@@ -102,8 +102,8 @@ pub struct DeskLoadResult {
 }
 
 // What desk_mark answers: the desk after it, and the number of the first no, 0 where the list is marked. Then the list's number, and the
-// verdict: 1 for valid, with count and shortfall; 2 for a clash of two labels, 3 for one of a label and a leader, with the two positions.
-// All else is 0.
+// verdict: 1 for valid, with count and shortfall; 2 for a clash of two labels, 3 for one of a label and a leader, 4 for a label that leaves
+// the map, with the two positions. All else is 0.
 #[repr(C)]
 pub struct DeskMarkResult {
     pub desk: Desk,
@@ -123,6 +123,7 @@ fn kind_number(kind: ClashKind) -> u32
     match kind {
         ClashKind::Labels => 2,
         ClashKind::LabelAndLeader => 3,
+        ClashKind::Overhang => 4,
     }
 }
 

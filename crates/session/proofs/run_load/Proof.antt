@@ -3,6 +3,7 @@ use borrow.Author.Needs.{needs}
 use mathlib.Core.Path.{_≡_, ap, subst}
 use Rattle.desk.specs.DeskLaws.{loading-exactly}
 use Rattle.desk.specs.declared.LoadResult.{LoadResult}
+use Rattle.lines.specs.Rooms.{lineRoom}
 use Rattle.lines.specs.DeskLines.{loadLine}
 use Rattle.lines.specs.Writing.{Prints}
 use Rattle.session.specs.Session.{loaded}
@@ -29,7 +30,7 @@ returns c =
     record {
       desk = ap (λ (r : LoadResult). r .desk) e;
       line =
-          subst (λ (r : LoadResult). Prints 31 (loadLine (r .answer) (r .desk)) (a .line .now)
+          subst (λ (r : LoadResult). Prints lineRoom (loadLine (r .answer) (r .desk)) (a .line .now)
           (c .before .before .load-line .result) (c .before .before .load-line .last .1 .1 .0))
           e (c .before .before .load-line .ensures);
     }

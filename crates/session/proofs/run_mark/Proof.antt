@@ -4,6 +4,7 @@ use mathlib.Core.Path.{_≡_, ap, subst}
 use Rattle.desk.specs.Desk.{markOf}
 use Rattle.desk.specs.DeskLaws.{marking-exactly}
 use Rattle.desk.specs.declared.MarkResult.{MarkResult}
+use Rattle.lines.specs.Rooms.{lineRoom}
 use Rattle.lines.specs.DeskLines.{markLine}
 use Rattle.lines.specs.Writing.{Prints}
 use Rattle.session.proofs.run_mark.Statement.{statement}
@@ -27,7 +28,7 @@ returns c =
       desk = ap (λ (r : MarkResult). r .desk) e;
       line =
           subst (λ (r : MarkResult).
-          Prints 31 (markLine (r .answer)) (a .line .now) (c .before .before .mark-line .result) (c .before .before .mark-line .last .1 .0))
+          Prints lineRoom (markLine (r .answer)) (a .line .now) (c .before .before .mark-line .result) (c .before .before .mark-line .last .1 .0))
           e (c .before .before .mark-line .ensures);
     }
 

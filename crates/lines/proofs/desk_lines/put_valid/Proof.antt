@@ -3,6 +3,7 @@ use borrow.Author.Needs.{needs}
 use Prim.Native.Nat.{_+_, _≤_}
 use lib.ListN.{length}
 use native.Mathlib.Omega.{arith}
+use Rattle.lines.specs.Rooms.{verdictRoom}
 use Rattle.lines.specs.DeskLines.{validText}
 use Rattle.lines.specs.Writing.{put-more, put-looser}
 use Rattle.lines.proofs.desk_lines.put_valid.Statement.{statement}
@@ -27,7 +28,7 @@ returns : tie.Need-returns
 unfolding validText
 returns c =
     let room :
-    c .before .before .before .before .before .before .before .before .before .before .before .before .before .before .args .at + 25
+    c .before .before .before .before .before .before .before .before .before .before .before .before .before .before .args .at + verdictRoom
     ≤ length (c .before .before .before .before .before .before .before .before .before .before .before .before .before .before
     .args .text .now) =
     c .before .before .before .before .before .before .before .before .before .before .before .before .before .before .pre in
