@@ -1,5 +1,6 @@
-/* Document 01's P1 and its desk example. `bindings/run` builds and runs it, and
-   compares what it prints with bindings/expected. */
+/* Document 01's P1 and its desk example, and document 02 (a)'s point whose label
+   leaves the map. `bindings/run` builds and runs it, and compares what it prints
+   with bindings/expected. */
 #include "plates.h"
 
 #include <stdio.h>
@@ -12,6 +13,12 @@ static const uint8_t P1[28] = {
     0x13, 0x00, 0x0a, 0x00, 0x07, 0x00,
 };
 
+/* P1's map and label with the one point 17 at (18,2). */
+static const uint8_t EDGE[16] = {
+    0x01, 0x14, 0x00, 0x0a, 0x00, 0x04, 0x00, 0x02, 0x00, 0x01,
+    0x11, 0x00, 0x12, 0x00, 0x02, 0x00,
+};
+
 static uint16_t workspace[PLATE_WORKSPACE];
 
 static void print_bytes(const char *name, const uint8_t *bytes, size_t count)
@@ -20,6 +27,26 @@ static void print_bytes(const char *name, const uint8_t *bytes, size_t count)
     for (size_t i = 0; i < count; i++)
         printf(" %02x", bytes[i]);
     printf("\n");
+}
+
+/* Loads a sheet, prints the answer, and hands the new desk back. */
+static struct desk load(struct desk desk, const uint8_t *sheet, size_t sheet_len)
+{
+    struct desk_load_result loaded =
+        desk_load(desk, sheet, sheet_len, workspace, PLATE_WORKSPACE);
+    printf("load %u\n", (unsigned)loaded.number);
+    return loaded.desk;
+}
+
+/* The word for a clash. */
+static const char *kind(uint32_t verdict)
+{
+    switch (verdict) {
+    case DESK_CLASH_LABELS: return "labels";
+    case DESK_CLASH_LABEL_AND_LEADER: return "leader";
+    case DESK_CLASH_OVERHANG: return "overhang";
+    default: return "?";
+    }
 }
 
 /* Marks a list, prints the answer, and hands the new desk back. */
@@ -34,7 +61,7 @@ static struct desk mark(struct desk desk, const uint8_t *list, size_t list_len)
     else
         printf("%u clash %u %u %s\n", (unsigned)marked.list_number,
                (unsigned)marked.first, (unsigned)marked.second,
-               marked.verdict == DESK_CLASH_LABELS ? "labels" : "leader");
+               kind(marked.verdict));
     return marked.desk;
 }
 
@@ -65,11 +92,11 @@ int main(void)
     static const uint8_t best[] = {2, 1, 2}, first[] = {1, 0}, none[] = {0};
     struct desk desk = desk_new();
     desk = mark(desk, best, sizeof best);
-    struct desk_load_result loaded =
-        desk_load(desk, P1, sizeof P1, workspace, PLATE_WORKSPACE);
-    printf("load %u\n", (unsigned)loaded.number);
-    desk = loaded.desk;
+    desk = load(desk, P1, sizeof P1);
     desk = mark(desk, best, sizeof best);
+    desk = mark(desk, first, sizeof first);
+    desk = mark(desk, none, sizeof none);
+    desk = load(desk, EDGE, sizeof EDGE);
     desk = mark(desk, first, sizeof first);
     mark(desk, none, sizeof none);
     return 0;

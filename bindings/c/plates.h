@@ -138,11 +138,13 @@ struct desk_load_result desk_load(struct desk desk,
 #define DESK_VALID 1
 #define DESK_CLASH_LABELS 2           /* two labels met */
 #define DESK_CLASH_LABEL_AND_LEADER 3 /* a label met a leader */
+#define DESK_CLASH_OVERHANG 4         /* a label leaves the map */
 
 /* A mark. The number is that of the first no (51, 31 to 33, 52), 0 if the list
    is marked. Then list_number is the list's number; a valid list has its count
-   and shortfall set, a clash its first and second position. Every other field
-   is 0; on a refusal all but the desk and the number are 0. */
+   and shortfall set, a clash its first and second position, which are one and
+   the same for a label that leaves the map. Every other field is 0; on a refusal
+   all but the desk and the number are 0. */
 struct desk_mark_result {
     struct desk desk;
     uint32_t number;

@@ -1,5 +1,6 @@
-//! Document 01's P1 and its desk example. `bindings/run` builds and runs it, and
-//! compares what it prints with bindings/expected.
+//! Document 01's P1 and its desk example, and document 02 (a)'s point whose label
+//! leaves the map. `bindings/run` builds and runs it, and compares what it prints
+//! with bindings/expected.
 
 use plates::{check_sheet, listing, make, read_plate, ClashKind, Desk, Refusal, Verdict};
 use plates::{LISTING, OUTPUT, WORKSPACE};
@@ -10,6 +11,12 @@ const P1: [u8; 28] = [
     0x11, 0x00, 0x02, 0x00, 0x03, 0x00, //
     0x12, 0x00, 0x04, 0x00, 0x04, 0x00, //
     0x13, 0x00, 0x0a, 0x00, 0x07, 0x00,
+];
+
+/// P1's map and label with the one point 17 at (18,2).
+const EDGE: [u8; 16] = [
+    0x01, 0x14, 0x00, 0x0a, 0x00, 0x04, 0x00, 0x02, 0x00, 0x01, // the frame, n
+    0x11, 0x00, 0x12, 0x00, 0x02, 0x00,
 ];
 
 fn main() -> Result<(), Refusal> {
@@ -25,9 +32,11 @@ fn main() -> Result<(), Refusal> {
     print!("{}", listing(plate, &mut [0; LISTING]).expect("room"));
 
     let desk = mark(Desk::new(), &[2, 1, 2]);
-    let (desk, loaded) = desk.load(&P1, &mut workspace);
-    println!("load {}", number(loaded));
+    let desk = load(desk, &P1, &mut workspace);
     let desk = mark(desk, &[2, 1, 2]);
+    let desk = mark(desk, &[1, 0]);
+    let desk = mark(desk, &[0]);
+    let desk = load(desk, &EDGE, &mut workspace);
     let desk = mark(desk, &[1, 0]);
     mark(desk, &[0]);
     Ok(())
@@ -41,6 +50,13 @@ fn number(answer: Result<(), Refusal>) -> u8 {
 fn print_bytes(name: &str, bytes: &[u8]) {
     let bytes: String = bytes.iter().map(|byte| format!(" {byte:02x}")).collect();
     println!("{name}{bytes}");
+}
+
+/// Loads a sheet, prints the answer, and hands the new desk back.
+fn load(desk: Desk, sheet: &[u8], workspace: &mut [u16]) -> Desk {
+    let (desk, answer) = desk.load(sheet, workspace);
+    println!("load {}", number(answer));
+    desk
 }
 
 /// Marks a list, prints the answer, and hands the new desk back.
@@ -59,11 +75,12 @@ fn mark(desk: Desk, list: &[u8]) -> Desk {
                 kind,
             },
         )) => {
-            let met = match kind {
+            let word = match kind {
                 ClashKind::Labels => "labels",
                 ClashKind::LabelAndLeader => "leader",
+                ClashKind::Overhang => "overhang",
             };
-            println!("{number} clash {first} {second} {met}");
+            println!("{number} clash {first} {second} {word}");
         }
     }
     desk

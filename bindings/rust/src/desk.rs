@@ -32,25 +32,27 @@ pub enum Verdict {
         /// How many fewer that is than the best count.
         shortfall: u16,
     },
-    /// Two points clash: the pair with the smallest first position, then the
-    /// smallest second.
+    /// Two points clash, or one with itself: the clash with the smallest first
+    /// position, then the smallest second.
     Clash {
-        /// The lesser position.
+        /// The lesser position; of an overhang, the position.
         first: u8,
-        /// The greater position.
+        /// The greater position; of an overhang, the same one.
         second: u8,
-        /// What met.
+        /// What the clash is.
         kind: ClashKind,
     },
 }
 
-/// What met in a clash.
+/// What a clash is.
 #[derive(Clone, Copy, Debug, PartialEq, Eq)]
 pub enum ClashKind {
-    /// Two labels on the map.
+    /// Two inside labels met.
     Labels,
-    /// A label on the map and a leader.
+    /// An inside label met a leader.
     LabelAndLeader,
+    /// An inside label leaves the map: a clash of a position with itself.
+    Overhang,
 }
 
 impl Desk {
@@ -138,11 +140,10 @@ fn marked_list(result: &ffi::DeskMarkResult) -> Result<Marked, Refusal> {
             promised(pair == (0, 0), "a valid list has no clash");
             valid(counts)
         }
-        2 | 3 => {
+        other => {
             promised(counts == (0, 0), "a clash has no counts");
-            clash(pair, verdict == 2)
+            clash(pair, clash_kind(other))
         }
-        other => panic!("the library's promise: a verdict is 1, 2 or 3, not {other}"),
     };
     let number = short(list_number);
     promised((1..=9999).contains(&number), "a number is 1 to 9999");
@@ -156,15 +157,26 @@ fn valid((count, shortfall): (u32, u32)) -> Verdict {
     }
 }
 
-fn clash((first, second): (u32, u32), labels: bool) -> Verdict {
+fn clash_kind(verdict: u32) -> ClashKind {
+    match verdict {
+        2 => ClashKind::Labels,
+        3 => ClashKind::LabelAndLeader,
+        4 => ClashKind::Overhang,
+        other => panic!("the library's promise: a verdict is 1 to 4, not {other}"),
+    }
+}
+
+fn clash((first, second): (u32, u32), kind: ClashKind) -> Verdict {
     let position = |number| u8::try_from(number).expect("the library's promise: a position");
+    let ordered = match kind {
+        ClashKind::Overhang => first == second,
+        _ => first < second,
+    };
+    promised(ordered, "an overhang has one position, other clashes two");
     Verdict::Clash {
         first: position(first),
         second: position(second),
-        kind: match labels {
-            true => ClashKind::Labels,
-            false => ClashKind::LabelAndLeader,
-        },
+        kind,
     }
 }
 
@@ -189,6 +201,20 @@ mod tests {
         assert!(!ends(2, 0) && !ends(0, 1) && !ends(1, 255));
     }
 
+    /// The clash of a list with number 9.
+    fn clash(verdict: u32, first: u32, second: u32) -> DeskMarkResult {
+        DeskMarkResult {
+            desk: desk_new(),
+            number: 0,
+            list_number: 9,
+            verdict,
+            count: 0,
+            shortfall: 0,
+            first,
+            second,
+        }
+    }
+
     /// A list with number 9 and count 4, with one thing changed.
     fn ends(change: impl FnOnce(&mut DeskMarkResult)) -> bool {
         let mut result = DeskMarkResult {
@@ -208,7 +234,13 @@ mod tests {
     #[test]
     fn a_broken_mark_panics() {
         assert!(ends(|_| ()) && ends(|result| result.count = 65535));
-        assert!(ends(|result| (result.verdict, result.count) = (3, 0)));
+        assert!(ends(|result| *result = clash(2, 0, 1)));
+        assert!(ends(|result| *result = clash(3, 0, 31)));
+        assert!(ends(|result| *result = clash(4, 7, 7)));
+        assert!(!ends(|result| *result = clash(2, 7, 7)), "labels of one");
+        assert!(!ends(|result| *result = clash(3, 1, 0)), "not in order");
+        assert!(!ends(|result| *result = clash(4, 0, 1)), "overhang of two");
+        assert!(!ends(|result| *result = clash(3, 0, 256)), "no position");
         assert!(!ends(|result| result.number = 31), "refused and marked");
         assert!(!ends(|result| result.number = 50), "no question's number");
         assert!(!ends(|result| result.list_number = 0), "no list number");
@@ -218,8 +250,8 @@ mod tests {
         );
         assert!(!ends(|result| result.list_number = 65_545), "not 16 bits");
         assert!(!ends(|result| result.verdict = 0), "no verdict");
-        assert!(!ends(|result| result.verdict = 4), "no such verdict");
-        assert!(!ends(|result| result.verdict = 2), "a clash with a count");
+        assert!(!ends(|result| *result = clash(5, 0, 0)), "no such verdict");
+        assert!(!ends(|result| result.verdict = 4), "a clash with a count");
         assert!(!ends(|result| result.second = 1), "valid with a clash");
         assert!(!ends(|result| result.shortfall = 65_536), "not 16 bits");
     }
