@@ -1,6 +1,7 @@
 //! Document 01's worked examples that aren't marked (P): the tie, the desk on P1, and the sheet of
-//! each plausible error; and a sheet whose last outside point isn't in the greatest margin column. All
-//! that is expected is written by hand from the document.
+//! each plausible error; a sheet whose last outside point isn't in the greatest margin column; and
+//! labels at the map's edges, by document 02 (a). All that is expected is written by hand from the
+//! documents.
 
 use crate::lent::Content;
 use crate::report::Report;
@@ -27,7 +28,7 @@ pub struct Case {
 
 /// In the lower wall's case the label of point 0 reaches up over the row of point 1, right of it,
 /// to where the label of point 2 would stand; points 0 and 2 don't touch point 1's leader.
-pub const CASES: [Case; 7] = [
+pub const CASES: [Case; 11] = [
     Case {
         name: "the tie (4,3), (3,4)",
         map: (20, 12),
@@ -72,18 +73,19 @@ pub const CASES: [Case; 7] = [
         lists: &[(&[1, 0], "1 clash 0 1 leader"), (&[1, 2], "2 valid 1 0")],
         listing: Some("plate 3 1 2\n17 out 1\n18 out 0\n19 in\n"),
     },
+    // Point 0's label would end above the map; its leader bars 1's label, and 1's leader bars 2's.
     Case {
         name: "only the rectangle placed before (P8)",
         map: (20, 12),
         label: (4, 3),
         points: &[(1, 10), (1, 9), (1, 7)],
-        best: 1,
+        best: 0,
         plates: &[
             (&[0, 3, 0, 0, 1, 1, 2, 2], 0),
             (&[0, 3, 0, 0, 1, 1, 2, 0], 43),
         ],
-        lists: &[(&[0], "1 valid 0 1")],
-        listing: Some("plate 3 1 2\n17 in\n18 out 0\n19 out 1\n"),
+        lists: &[(&[0], "1 valid 0 0")],
+        listing: Some("plate 3 0 3\n17 out 0\n18 out 1\n19 out 2\n"),
     },
     Case {
         name: "touching labels (P3)",
@@ -132,6 +134,71 @@ pub const CASES: [Case; 7] = [
             (&[1, 0], "5 valid 1 1"),
         ],
         listing: Some("plate 5 2 2\n17 in\n18 in\n19 out 0\n20 out 1\n21 out 0\n"),
+    },
+    // The label would take columns 18 to 21; the map's last one is 19.
+    Case {
+        name: "a point that can only be outside",
+        map: (20, 10),
+        label: (4, 2),
+        points: &[(18, 2)],
+        best: 0,
+        plates: &[(&[0, 1, 0, 0], 0), (&[1, 0, 0], 44)],
+        lists: &[(&[1, 0], "1 clash 0 0 overhang"), (&[0], "2 valid 0 0")],
+        listing: Some("plate 1 0 1\n17 out 0\n"),
+    },
+    // The labels end in the last column, in the last row, and one past each of them.
+    Case {
+        name: "labels at the edges",
+        map: (20, 10),
+        label: (4, 2),
+        points: &[(16, 3), (5, 8), (17, 6), (4, 9)],
+        best: 2,
+        plates: &[
+            (&[2, 0, 1, 2, 3, 0, 2, 0], 0),
+            (&[2, 0, 2, 2, 3, 0, 1, 1], 44),
+            (&[3, 0, 1, 3, 1, 2, 0], 44),
+        ],
+        lists: &[
+            (&[2, 0, 1], "1 valid 2 0"),
+            (&[2, 0, 2], "2 clash 2 2 overhang"),
+            (&[3, 0, 1, 3], "3 clash 1 3 labels"),
+            (&[1, 3], "4 clash 3 3 overhang"),
+            (&[4, 0, 1, 2, 3], "5 clash 1 3 labels"),
+        ],
+        listing: Some("plate 4 2 1\n17 in\n18 in\n19 out 0\n20 out 0\n"),
+    },
+    // Point 1 overhangs, clear of the others; the label of 2 meets the label and the leader of 0.
+    Case {
+        name: "an overhang after the pair of an earlier position",
+        map: (20, 10),
+        label: (4, 2),
+        points: &[(8, 3), (18, 5), (6, 2)],
+        best: 1,
+        plates: &[(&[1, 0, 2, 1, 0, 2, 0], 0), (&[2, 1, 2, 1, 0, 0], 44)],
+        lists: &[
+            (&[2, 1, 2], "1 clash 0 2 leader"),
+            (&[1, 1], "2 clash 1 1 overhang"),
+            (&[2, 0, 1], "3 clash 1 1 overhang"),
+            (&[3, 0, 1, 2], "4 clash 0 2 labels"),
+            (&[1, 0], "5 valid 1 0"),
+        ],
+        listing: Some("plate 3 1 1\n17 in\n18 out 0\n19 out 0\n"),
+    },
+    // Point 0 overhangs, so that its leader bars the label of 1, which its own label meets too.
+    Case {
+        name: "an overhang before the pairs of its position",
+        map: (20, 10),
+        label: (4, 2),
+        points: &[(17, 4), (15, 3)],
+        best: 0,
+        plates: &[(&[0, 2, 0, 0, 1, 1], 0), (&[2, 0, 1, 0], 44)],
+        lists: &[
+            (&[2, 0, 1], "1 clash 0 0 overhang"),
+            (&[1, 1], "2 clash 0 1 leader"),
+            (&[1, 0], "3 clash 0 0 overhang"),
+            (&[0], "4 valid 0 0"),
+        ],
+        listing: Some("plate 2 0 2\n17 out 0\n18 out 1\n"),
     },
 ];
 

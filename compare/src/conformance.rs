@@ -61,7 +61,7 @@ const MOST_PART: usize = 500;
 /// How many calls are made up.
 const MADE_UP: usize = 200;
 
-/// An input: document 01's unmarked examples, then made-up calls: each number that the program can
+/// An input: the documents' examples, then made-up calls: each number that the program can
 /// meet, then any. A kind that isn't known ends the run, so that the call after it has no line.
 pub fn input(seed: u64) -> Result<Vec<u8>, String> {
     let mut random = Random::new(seed);

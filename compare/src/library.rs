@@ -77,6 +77,7 @@ fn marked(marked: plates::Marked) -> Marked {
             kind: match kind {
                 plates::ClashKind::Labels => ClashKind::Labels,
                 plates::ClashKind::LabelAndLeader => ClashKind::LabelAndLeader,
+                plates::ClashKind::Overhang => ClashKind::Overhang,
             },
         },
     };

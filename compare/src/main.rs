@@ -1,7 +1,8 @@
 //! Compares the proved library with the reference, call by call, and what the programs print_plate and
 //! desk_session print with the reference's texts: document 01's worked examples that aren't marked
-//! (P), and thousands of made-up cases, from a fixed seed and, beside them, from a fresh one. A
-//! difference ends its seed's cases, and is shown with the bytes in hand, the seeds, and exit status 1.
+//! (P), examples of document 02 (a), and thousands of made-up cases, from a fixed seed and, beside
+//! them, from a fresh one. A difference ends its seed's cases, and is shown with the bytes in hand, the
+//! seeds, and exit status 1.
 
 #![deny(unsafe_code)]
 
@@ -73,7 +74,7 @@ fn fresh_seed() -> Result<u64, String> {
     Ok(Random::new(time.as_nanos() as u64).next_number())
 }
 
-/// All cases of the document, then the made-up ones of the fixed seed and of this one. A long run
+/// All cases of the documents, then the made-up ones of the fixed seed and of this one. A long run
 /// has ten times as many.
 fn run_all(seed: u64, long: bool) -> Result<(), String> {
     programs::all_there()?;
@@ -104,7 +105,7 @@ fn run_document(report: &mut Report) -> Compared {
         run_case(report, |report| case.run(report))
             .map_err(|message| failure(report, &message, case.name))?;
     }
-    println!("{:<22}{:>9} cases", "document 01", CASES.len());
+    println!("{:<22}{:>9} cases", "documents 01 and 02", CASES.len());
     Ok(())
 }
 

@@ -105,11 +105,12 @@ pub const TRIED: &str = "bests by every choice, up to 12 points";
 pub const SEARCHED: &str = "bests by the search, above 12 points";
 
 /// The verdicts on lists.
-const VERDICTS: [&str; 4] = [
+const VERDICTS: [&str; 5] = [
     "lists valid, shortfall 0",
     "lists valid, shortfall above 0",
     "lists with a clash of labels",
     "lists with a clash with a leader",
+    "lists with an overhang",
 ];
 
 /// Which of the verdicts this one is.
@@ -125,6 +126,10 @@ fn verdict_name(verdict: Verdict) -> &'static str {
             kind: ClashKind::LabelAndLeader,
             ..
         } => VERDICTS[3],
+        Verdict::Clash {
+            kind: ClashKind::Overhang,
+            ..
+        } => VERDICTS[4],
     }
 }
 

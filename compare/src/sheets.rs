@@ -25,7 +25,7 @@ pub fn sheet_of(random: &mut Random, n: u16) -> Vec<u8> {
         1 => points.reverse(),
         _ => shuffle(random, &mut points),
     }
-    sheet_bytes(map, label, &points)
+    some_with_room(random, sheet_bytes(map, label, &points))
 }
 
 /// Points so close that labels and leaders are in each other's way nearly everywhere.
@@ -36,7 +36,8 @@ pub fn crowded_sheet(random: &mut Random) -> Vec<u8> {
         random.between(1, 4) * label.0,
         random.between(n, n * label.1),
     );
-    reference::random::random_sheet(random, map, label, n)
+    let sheet = reference::random::random_sheet(random, map, label, n);
+    some_with_room(random, sheet)
 }
 
 /// A small sheet, on which calls are fast.
@@ -44,7 +45,23 @@ pub fn small_sheet(random: &mut Random) -> Vec<u8> {
     let n = random.between(0, 8);
     let map = (random.between(8, 24), random.between(8, 24));
     let label = (random.between(1, 6), random.between(1, 5));
-    reference::random::random_sheet(random, map, label, n)
+    let sheet = reference::random::random_sheet(random, map, label, n);
+    some_with_room(random, sheet)
+}
+
+/// The sheet as it is, or on a map that reaches a label further right and up: one as often as the
+/// other. There every label is on the map, unless a side would be above 4,096.
+fn some_with_room(random: &mut Random, mut sheet: Vec<u8>) -> Vec<u8> {
+    if random.below(2) == 0 {
+        return sheet;
+    }
+    // Where the map's sides stand, and the label's.
+    for (map, label) in [(1, 5), (3, 7)] {
+        let side = |at| u16::from_le_bytes([sheet[at], sheet[at + 1]]);
+        let longer = (side(map) + side(label) - 1).min(4096);
+        sheet[map..map + 2].copy_from_slice(&longer.to_le_bytes());
+    }
+    sheet
 }
 
 fn label_side(random: &mut Random) -> u16 {
