@@ -12,6 +12,8 @@ struct Map {
     n: usize,
     rank: [u8; LONG],
     order: [u8; LONG],
+    /// Whether i's label is on the map.
+    allowed: [bool; LONG],
     /// The topmost label that reaches over i's row on its right, or 0: also the
     /// greatest j < i that is right of i and meets its label.
     low: [u8; LONG],
@@ -53,6 +55,7 @@ impl Map {
             n,
             rank: [n as u8; LONG],
             order: [0; LONG],
+            allowed: [false; LONG],
             low: [0; LONG],
             high: [n as u8 + 1; LONG],
             clear: [n as u8 + 1; LONG],
@@ -60,6 +63,7 @@ impl Map {
             over: [0; LONG],
         };
         map.rank[..PLACES].copy_from_slice(&points.rank);
+        map.allowed[..PLACES].copy_from_slice(&points.allowed);
         map.order[..points.order.len()].copy_from_slice(&points.order);
         let Points { w, h, .. } = *points;
         let (column, row) = (&points.column[..=n], &points.row[..=n]);
@@ -106,7 +110,8 @@ impl Map {
     #[inline]
     fn good(&self, a: usize, b: usize, q: usize, i: usize) -> bool {
         let i = i % LONG;
-        (usize::from(self.low[i]) <= a)
+        self.allowed[i]
+            & (usize::from(self.low[i]) <= a)
             & (b <= usize::from(self.high[i]))
             & (usize::from(self.clear[i]) <= b)
             & (self.meet[i] >> (q % LONG) & 1 == 0)

@@ -86,6 +86,8 @@ pub struct Points {
     pub row: [u16; PLACES],
     /// The position on the sheet.
     pub position: [u8; PLACES],
+    /// Whether the label, inside, is on the map.
+    pub allowed: [bool; PLACES],
     /// The place in right order, from 0; n for both boundaries.
     pub rank: [u8; PLACES],
     /// The point of each rank.
@@ -102,9 +104,11 @@ impl Points {
             column: [0; PLACES],
             row: [0; PLACES],
             position: [0; PLACES],
+            allowed: [false; PLACES],
             rank: [n as u8; PLACES],
             order: [0; MOST],
         };
+        let (width, height) = (number(sheet, 1), number(sheet, 3));
         // Row, column and position in one number, then column, row and place.
         let mut keys = [0u32; MOST];
         let keys = &mut keys[..n];
@@ -119,6 +123,8 @@ impl Points {
             points.row[i] = row as u16;
             points.column[i] = column as u16;
             points.position[i] = (*key & 0x3f) as u8;
+            points.allowed[i] =
+                points.column[i] + points.w <= width && points.row[i] + points.h <= height;
             *key = (column << 12 | row) << 6 | i as u32;
         }
         keys.sort_unstable();

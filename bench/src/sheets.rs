@@ -86,11 +86,13 @@ pub fn any(random: &mut Random, n: usize) -> Vec<u8> {
     sheet(random, map, label, points)
 }
 
-/// Every row taken, labels several rows high.
+/// Every row taken from the lowest up, labels several rows high, and room for
+/// each of them on the map.
 fn dense(random: &mut Random, n: usize) -> Vec<u8> {
-    let map = (random.within(24, 96), n);
+    let taken = (random.within(24, 96), n);
     let label = (random.within(4, 24), random.within(2, 8));
-    let points = scattered(random, n, map);
+    let points = scattered(random, n, taken);
+    let map = (taken.0 + label.0 - 1, taken.1 + label.1 - 1);
     sheet(random, map, label, points)
 }
 
@@ -106,7 +108,7 @@ fn sparse(random: &mut Random, n: usize) -> Vec<u8> {
 fn one_column(random: &mut Random, n: usize) -> Vec<u8> {
     let map = (1024, 4096);
     let label = (random.within(1, 256), random.within(1, 16));
-    let column = random.within(0, map.0 - 1);
+    let column = random.within(0, map.0 - label.0);
     let mut row = 0;
     let points = (0..n)
         .map(|_| {

@@ -53,15 +53,20 @@ fn made(make: Make, sheet: &[u8], lent: &[u16]) -> Result<Vec<u8>, u8> {
     Ok(output)
 }
 
+/// The two-byte number at a place.
+fn number(sheet: &[u8], at: usize) -> i32 {
+    i32::from(sheet[at]) + 256 * i32::from(sheet[at + 1])
+}
+
 /// Label sides, and column and row of each point.
 fn read(sheet: &[u8]) -> (i32, i32, Vec<(i32, i32)>) {
-    let number = |at: usize| i32::from(sheet[at]) + 256 * i32::from(sheet[at + 1]);
+    let number = |at: usize| number(sheet, at);
     let at = |i: usize| (number(12 + 6 * i), number(14 + 6 * i));
     let points = (0..usize::from(sheet[9])).map(at).collect();
     (number(5), number(7), points)
 }
 
-/// The conflicts of two points, as crates/labeling/specs/ConflictTable.antt has them; bit i says whether i is inside.
+/// The conflicts of two points, as crates/labeling/specs/ConflictTable.antt has them, and the frame; bit i says whether i is inside.
 fn valid(sheet: &[u8], inside: u32) -> bool {
     let (w, h, points) = read(sheet);
     let is_in = |i: usize| inside >> i & 1 == 1;
@@ -74,7 +79,10 @@ fn valid(sheet: &[u8], inside: u32) -> bool {
                 _ => true,
             }
     };
-    (0..points.len()).all(|i| (0..points.len()).all(|j| free(i, j)))
+    let (width, height) = (number(sheet, 1), number(sheet, 3));
+    let on_map = |(c, r): (i32, i32)| c + w <= width && r + h <= height;
+    (0..points.len())
+        .all(|i| (!is_in(i) || on_map(points[i])) && (0..points.len()).all(|j| free(i, j)))
 }
 
 fn best(sheet: &[u8]) -> u32 {
@@ -120,6 +128,30 @@ fn p1() {
     }
     let plate = [&P1[..], &[2, 1, 2, 1, 0, 0]].concat();
     assert_lists(&plate, "plate 3 2 1\n17 out 0\n18 in\n19 in\n");
+}
+
+/// P1's map and label with one point, and what its plate adds to the sheet.
+fn alone(column: u8, row: u8) -> Vec<Vec<u8>> {
+    let sheet = [
+        &[1, 20, 0, 10, 0, 4, 0, 2, 0, 1, 17, 0][..],
+        &[column, 0, row, 0],
+    ]
+    .concat();
+    let [zeros, ..] = workspaces();
+    let plates = MAKERS.iter().map(|make| made(*make, &sheet, &zeros));
+    plates.map(|plate| plate.unwrap()[16..].to_vec()).collect()
+}
+
+/// Document 02 (a): only a label that is wholly on the map is inside.
+#[test]
+fn the_frame() {
+    for (column, row) in [(16, 3), (5, 8), (16, 8)] {
+        assert!(alone(column, row).iter().all(|added| *added == [1, 0, 0]));
+    }
+    for (column, row) in [(18, 2), (17, 3), (5, 9), (17, 8), (16, 9)] {
+        let outside = [0, 1, 0, 0];
+        assert!(alone(column, row).iter().all(|added| *added == outside));
+    }
 }
 
 /// All listings of a plate are this text: in a buffer that is just as long, and
@@ -188,7 +220,7 @@ fn the_longest_listing() {
     assert_eq!(proved::read_plate(&plate), Some(&[][..]));
 }
 
-/// A tiny map, where labels meet in every way.
+/// A tiny map, where labels meet in every way; at times with room for each.
 fn tiny(random: &mut Random, n: usize) -> Vec<u8> {
     let map = (random.within(1, 8), random.within(n.max(1), n + 3));
     let label = (random.within(1, 6), random.within(1, 5));
@@ -198,6 +230,8 @@ fn tiny(random: &mut Random, n: usize) -> Vec<u8> {
     }
     let column = |row| (random.within(0, map.0 - 1), row);
     let points = rows.into_iter().map(column).collect();
+    let room = random.within(0, 1);
+    let map = (map.0 + room * (label.0 - 1), map.1 + room * (label.1 - 1));
     sheet(random, map, label, points)
 }
 
