@@ -3,7 +3,7 @@ use mathlib.Core.Path.{_≡_, refl, sym, ap, _∙_}
 use mathlib.Core.Bool.{Bool, true, false, not, _&&_}
 use Prim.Native.Nat.{ℕ, zero, suc, _+_, _≤_, _<_}
 use lib.Dec.{ltb, leb}
-use borrow.Author.Tests.{lt-ltb, le-ltb, eq-eqb, ne-eqb}
+use borrow.Author.Tests.{lt-ltb, le-ltb}
 use native.Mathlib.Omega.{arith}
 use native.Mathlib.Numerals.{add-one}
 use Rattle.labeling.specs.Points.{Points, Choice}
@@ -14,7 +14,7 @@ use Rattle.clash.specs.declared.ClashKind.the-variants.{Labels, LabelAnd
 use Rattle.clash.specs.declared.Clash.{Clash}
 use Rattle.clash.specs.declared.Clash.the-variants.{None, Between}
 use Rattle.format.specs.Stretches.{stretchesOverlap}
-use Rattle.clash.specs.FirstClash.{isClash, orElse, clashIf, pairClash, ownClash, firstOf, orderedClash, clashOf}
+use Rattle.clash.specs.FirstClash.{isClash, orElse, clashIf, pairClash, ownClash, firstOf, orderedClash, laterClash, clashOf}
 use Rattle.clash.specs.ClashPixels.{first-none, none-first}
 
 -- TWO LABELS, by their columns and then their rows
@@ -101,25 +101,11 @@ first-stop f m k l e = first-none f k (λ i b. none-first f m e i (omega arith))
 pub ordered-above : (P : Points) (S : Choice) (i j : ℕ) → i < j → orderedClash P S i j ≡ pairClash P S i j
 ordered-above P S i j l = rw (lt-ltb i j l)
 
--- A POSITION'S OWN CLASH comes before those with the positions above it.
+-- no clash of a position with itself and those below
+pub ordered-below : (P : Points) (S : Choice) (i : ℕ) → firstOf (orderedClash P S i) (i + 1) ≡ None
+ordered-below P S i = first-none (orderedClash P S i) (i + 1) (λ j l. rw (le-ltb i j (omega arith)))
 
-ordered-own : (P : Points) (S : Choice) (i : ℕ) → orderedClash P S i i ≡ ownClash P S i
-ordered-own P S i = rw (le-ltb i i (omega arith), eq-eqb i i refl)
-
--- no clash with those below
-ordered-below : (P : Points) (S : Choice) (i : ℕ) → firstOf (orderedClash P S i) i ≡ None
-ordered-below P S i = first-none (orderedClash P S i) i (λ j l. rw (le-ltb i j (omega arith), ne-eqb i j (λ e. omega arith)))
-
--- its own clash decides
-pub own-found : (P : Points) (S : Choice) (i : ℕ) → i < P .n → isClash (ownClash P S i) ≡ true → ownClash P S i ≡ clashOf P S i
-unfolding clashOf
-own-found P S i l y =
-    let e = ordered-own P S i in
-    sym e ∙ first-found (orderedClash P S i) i (P .n) (ordered-below P S i) (ap isClash e ∙ y) l
-
--- without one, those above it do
-pub own-none : (P : Points) (S : Choice) (i : ℕ) → isClash (ownClash P S i) ≡ false → firstOf (orderedClash P S i) (i + 1) ≡ None
-own-none P S i e = first-more (orderedClash P S i) i (ordered-below P S i) (ap isClash (ordered-own P S i) ∙ e)
+-- A POSITION'S OWN CLASH
 
 pub own-inside : (P : Points) (S : Choice) (i : ℕ) (r : Clash)
     → S i ≡ true → r ≡ clashIf (not (labelOnMapB P i)) i i Overhang → r ≡ ownClash P S i
@@ -129,3 +115,12 @@ own-inside P S i r a e = rw a e
 pub own-outside : (P : Points) (S : Choice) (i : ℕ) → S i ≡ false → None ≡ ownClash P S i
 unfolding ownClash
 own-outside P S i a = rw a
+
+-- its own clash comes first
+pub own-found : (P : Points) (S : Choice) (i : ℕ) → isClash (ownClash P S i) ≡ true → ownClash P S i ≡ clashOf P S i
+unfolding clashOf
+own-found P S i e = or-clash (ownClash P S i) (laterClash P S i) e
+
+pub own-none : (P : Points) (S : Choice) (i : ℕ) → isClash (ownClash P S i) ≡ false → laterClash P S i ≡ clashOf P S i
+unfolding clashOf
+own-none P S i e = rw (no-clash (ownClash P S i) e)

@@ -14,7 +14,7 @@ use Rattle.labeling.specs.Decide.{same, or-right, or-false}
 use Rattle.labeling.specs.Margin.{among-last}
 use Rattle.format.specs.Plate.{choiceOf}
 use Rattle.clash.specs.declared.Clash.{Clash}
-use Rattle.clash.specs.FirstClash.{pairClash, ownClash, firstOf, orderedClash, clashOf, firstClash}
+use Rattle.clash.specs.FirstClash.{pairClash, ownClash, firstOf, orderedClash, laterClash, clashOf, firstClash}
 
 -- No position is inside.
 unfoldable pub nobodyInside : List Bool
@@ -94,7 +94,7 @@ first-same f g zero e = refl
 first-same f g (suc m) e = rw (first-same f g m (λ i l. e i (omega arith)), e m (omega arith))
 
 pub first-clash-same : (P : Points) (S R : Choice) → ((i : ℕ) → i < P .n → S i ≡ R i) → firstClash P S ≡ firstClash P R
-unfolding firstClash clashOf pairClash ownClash
+unfolding firstClash clashOf laterClash pairClash ownClash
 first-clash-same P S R e =
     first-same (clashOf P S) (clashOf P R) (P .n)
-    (λ i l. first-same (orderedClash P S i) (orderedClash P R i) (P .n) (λ j m. rw (e i l, e j m)))
+    (λ i l. rw (e i l, first-same (orderedClash P S i) (orderedClash P R i) (P .n) (λ j m. rw (e i l, e j m))))

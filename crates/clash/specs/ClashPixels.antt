@@ -1,11 +1,11 @@
 -- On an accepted sheet the first clash is none exactly if the choice is valid, and otherwise it is the first, in the documents' order, of
 -- the labels that leave the map and the pairs of points that mark one pixel, with the kind that the documents give it. Assumes nothing.
 use mathlib.Core.Path.{_≡_, refl, sym, ap, _∙_}
-use mathlib.Core.Bool.{Bool, true, false, cond}
+use mathlib.Core.Bool.{Bool, true, false}
 use mathlib.Core.Logic.{_⊎_, inl, inr, _↔_}
 use mathlib.Core.List.{List}
 use Prim.Native.Nat.{ℕ, zero, suc, _≤_, _<_}
-use borrow.Author.Tests.{lt-ltb, le-ltb, eq-eqb, ne-eqb}
+use borrow.Author.Tests.{lt-ltb, le-ltb}
 use native.Mathlib.Omega.{arith}
 use Rattle.labeling.specs.Points.{Points, Choice, DistinctRows}
 use Rattle.labeling.specs.Marks.{Shared, LabelOnMap, Valid, labelOnMapB}
@@ -19,7 +19,8 @@ use Rattle.clash.specs.declared.ClashKind.{ClashKind}
 use Rattle.clash.specs.declared.ClashKind.the-variants.{Labels, LabelAndLeader, Overhang}
 use Rattle.clash.specs.declared.Clash.{Clash}
 use Rattle.clash.specs.declared.Clash.the-variants.{None, Between}
-use Rattle.clash.specs.FirstClash.{isClash, orElse, clashIf, pairClash, ownClash, firstOf, orderedClash, clashOf, firstClash}
+use Rattle.clash.specs.FirstClash.{isClash, orElse, clashIf, pairClash, ownClash, firstOf, orderedClash}
+use Rattle.clash.specs.FirstClash.{laterClash, clashOf, firstClash}
 
 -- none is no clash
 none-between : {c : Clash} {i j : ℕ} {k : ClashKind} → c ≡ None → c ≡ Between i j k → ⊥
@@ -182,17 +183,17 @@ module _ (P : Points) (S : Choice) (wide : 1 ≤ P .w) (d : DistinctRows P) wher
       one-row : S i ≡ false → S j ≡ false → Conflict P S i j → ⊥
       one-row a b c = differ (d .apart i j (omega arith) m (rw (a, b) at c))
 
-  -- of a first position and a second that isn't below it
-  ordered-is : (i j : ℕ) → i ≤ j → j < P .n → ClashIs P S i j (orderedClash P S i j)
-  ordered-is i j l m =
-      less i j
-      (λ u. rw (lt-ltb i j u) (pair-is i j u m))
-      (λ g. let q : i ≡ j = omega arith in rw (le-ltb i j g, eq-eqb i j q, ← q) (own-is P S i))
+  ordered-is : (i j : ℕ) → i < j → j < P .n → ClashIs P S i j (orderedClash P S i j)
+  ordered-is i j l m = rw (lt-ltb i j l) (pair-is i j l m)
 
-  -- a clash of i that is none leaves it apart from every position from i on
+  -- a clash of i that is none leaves it apart from itself and every later position
   none-from : (i : ℕ) → clashOf P S i ≡ None → (j : ℕ) → i ≤ j → j < P .n → Clashing P S i j → ⊥
-  unfolding clashOf
-  none-from i e j l m = is-none (ordered-is i j l m) (none-first (orderedClash P S i) (P .n) e j m)
+  unfolding clashOf laterClash
+  none-from i e j l m =
+      let o = or-none (ownClash P S i) (laterClash P S i) e in
+      less i j
+      (λ u. is-none (ordered-is i j u m) (none-first (orderedClash P S i) (P .n) (o .1) j m))
+      (λ g. let q : i ≡ j = omega arith in rw (← q) (is-none (own-is P S i) (o .0)))
 
   none-clashing : firstClash P S ≡ None → (i j : ℕ) → i ≤ j → j < P .n → Clashing P S i j → ⊥
   unfolding firstClash
@@ -214,52 +215,70 @@ module _ (P : Points) (S : Choice) (wide : 1 ≤ P .w) (d : DistinctRows P) wher
   valid-apart v i j l m (inr x) = v .apart (x .1 .0) i j (omega arith) m (x .0) (x .1 .1) (x .1 .2)
 
   valid-none : Valid P S → firstClash P S ≡ None
-  unfolding firstClash clashOf
-  valid-none v = first-none (clashOf P S) (P .n) (λ i l. first-none (orderedClash P S i) (P .n) (ordered i))
+  unfolding firstClash clashOf laterClash
+  valid-none v = first-none (clashOf P S) (P .n) (λ i l. rw (own i l) (first-none (orderedClash P S i) (P .n) (ordered i)))
     where
+      own : (i : ℕ) → i < P .n → ownClash P S i ≡ None
+      own i l = none-is (own-is P S i) (valid-apart v i i (omega arith) l)
+
       ordered : (i j : ℕ) → j < P .n → orderedClash P S i j ≡ None
       ordered i j m =
-          less j i
-          (λ u. rw (le-ltb i j (omega arith), ne-eqb i j (λ q. omega arith)))
-          (λ l. none-is (ordered-is i j l m) (valid-apart v i j l m))
+          less i j
+          (λ u. none-is (ordered-is i j u m) (valid-apart v i j (omega arith) m))
+          (λ g. rw (le-ltb i j g))
 
   -- NONE EXACTLY IF THE CHOICE IS VALID
   pub none-valid : (firstClash P S ≡ None) ↔ Valid P S
   none-valid = (λ e. apart-valid (none-clashing e), valid-none)
 
-  -- nothing clashes before i and j
-  apart-before : {i j : ℕ} → ((a : ℕ) → a < i → clashOf P S a ≡ None) → ((b : ℕ) → b < j → orderedClash P S i b ≡ None)
-      → (a b : ℕ) → a ≤ b → b < P .n → (a < i) ⊎ ((a ≡ i) × (b < j)) → Clashing P S a b → ⊥
-  apart-before f g a b l m (inl y) c = none-from a (f a y) b l m c
-  apart-before {i} {j} f g a b l m (inr y) c = is-none (ordered-is a b l m) (rw (y .0) (g b (y .1))) c
+  -- a clash with its kind is named, if nothing clashes before it
+  named : {a b i j : ℕ} {k : ClashKind} {c : Clash} → ClashIs P S a b c → c ≡ Between i j k → a ≤ b → b < P .n
+      → ((c : ℕ) → c < a → clashOf P S c ≡ None) → ((d : ℕ) → a ≤ d → d < b → Clashing P S a d → ⊥) → Named P S i j k
+  named {a} {b} {i} {j} {k} x e l m f g =
+      let p = is-met x e in
+      let r : Named P S a b k = record {
+        ordered = l;
+        below = m;
+        clashing = p .2;
+        kind = λ z. (λ q. rw q at p .3, kind-once k z S a b (p .3));
+        earlier = earlier;
+      } in rw (p .0, p .1) at r
+    where
+      earlier : (c d : ℕ) → c ≤ d → d < P .n → (c < a) ⊎ ((c ≡ a) × (d < b)) → Clashing P S c d → ⊥
+      earlier c d u v (inl y) = none-from c (f c y) d u v
+      earlier c d u v (inr y) = rw (y .0) (g d (omega arith) (y .1))
 
   between-named : {i j : ℕ} {k : ClashKind} → firstClash P S ≡ Between i j k → Named P S i j k
-  unfolding firstClash clashOf
+  unfolding firstClash clashOf laterClash
   between-named {i} {j} {k} e =
       let x = first-at (clashOf P S) (P .n) e in
-      let y = first-at (orderedClash P S (x .at)) (P .n) (x .is) in
-      named (x .at) (y .at) (y .below) (y .is) (x .earlier) (y .earlier)
+      which (x .at) (x .below) (x .earlier) (or-between (ownClash P S (x .at)) (laterClash P S (x .at)) (x .is))
     where
-      named : (a b : ℕ) → b < P .n → orderedClash P S a b ≡ Between i j k → ((c : ℕ) → c < a → clashOf P S c ≡ None)
-          → ((c : ℕ) → c < b → orderedClash P S a c ≡ None) → Named P S i j k
-      named a b m q f g =
-          less b a
-          (λ u. absurd (none-between (rw (le-ltb a b (omega arith), ne-eqb a b (λ q. omega arith))) q))
-          (λ l. let p = is-met (ordered-is a b l m) q in
-          let r : Named P S a b k = record {
-            ordered = l;
-            below = m;
-            clashing = p .2;
-            kind = λ z. (λ e. rw e at p .3, kind-once k z S a b (p .3));
-            earlier = apart-before f g;
-          } in rw (p .0, p .1) at r)
+      -- the pair of a and the first later position
+      later : (a : ℕ) → ((c : ℕ) → c < a → clashOf P S c ≡ None) → ownClash P S a ≡ None
+          → (y : FirstAt (orderedClash P S a) (P .n) (Between i j k)) → Named P S i j k
+      later a f o y =
+          less a (y .at)
+          (λ u. named (ordered-is a (y .at) u (y .below)) (y .is) (omega arith) (y .below) f before)
+          (λ g. absurd (none-between (rw (le-ltb a (y .at) g)) (y .is)))
+        where
+          before : (d : ℕ) → a ≤ d → d < y .at → Clashing P S a d → ⊥
+          before d l v =
+              less a d
+              (λ t. is-none (ordered-is a d t (omega (arith, y .below))) (y .earlier d v))
+              (λ g. let q : a ≡ d = omega arith in rw (← q) (is-none (own-is P S a) o))
+
+      which : (a : ℕ) → a < P .n → ((c : ℕ) → c < a → clashOf P S c ≡ None)
+          → (ownClash P S a ≡ Between i j k) ⊎ ((ownClash P S a ≡ None) × (laterClash P S a ≡ Between i j k)) → Named P S i j k
+      which a m f (inl q) = named (own-is P S a) q (omega arith) m f (λ d l v. absurd (omega arith))
+      which a m f (inr q) = later a f (q .0) (first-at (orderedClash P S a) (P .n) (q .1))
 
   -- no clash that is named comes before another
   named-least : {i j a b : ℕ} {k m : ClashKind} → Named P S i j k → Named P S a b m → (a < i) ⊎ ((a ≡ i) × (b < j)) → ⊥
   named-least {i} {j} {a} {b} x y o = x .earlier a b (y .ordered) (y .below) o (y .clashing)
 
-  -- so two clashes that are named are one
-  named-once : {i j a b : ℕ} {k m : ClashKind} → Named P S i j k → Named P S a b m → Between i j k ≡ Between a b m
+  -- ONE CLASH IS NAMED: two that are named are the same.
+  pub named-once : {i j a b : ℕ} {k m : ClashKind} → Named P S i j k → Named P S a b m → Between i j k ≡ Between a b m
   named-once {i} {j} {a} {b} {k} {m} x y =
       same i a
       (λ p. same j b

@@ -3,7 +3,7 @@
 -- pixel. Assumes nothing.
 use mathlib.Core.Bool.{Bool, true, false, cond, not}
 use Prim.Native.Nat.{ℕ, zero, suc}
-use lib.Dec.{ltb, eqb}
+use lib.Dec.{ltb}
 use Rattle.labeling.specs.Points.{Points, Choice}
 use Rattle.labeling.specs.Marks.{labelOnMapB}
 use Rattle.labeling.specs.Conflicts.{overlapB, hitsB}
@@ -43,14 +43,18 @@ unfoldable pub firstOf : (ℕ → Clash) → ℕ → Clash
 firstOf f zero = None
 firstOf f (suc m) = orElse (firstOf f m) (f m)
 
--- "first below second": the clash of i with j, where i is below j. And document 02 (a): an overhang "takes part in the order of clashes,
--- first and second position being equal".
+-- "first below second": the clash of i with j, where i is below j.
 abbrev pub orderedClash : Points → Choice → ℕ → ℕ → Clash
-orderedClash P S i j = cond (ltb i j) (pairClash P S i j) (cond (eqb i j) (ownClash P S i) None)
+orderedClash P S i j = cond (ltb i j) (pairClash P S i j) None
 
--- The clash of position i with "the smallest second": i itself comes before those above it.
+-- The clash of position i with "the smallest second" above it.
+unfoldable pub laterClash : Points → Choice → ℕ → Clash
+laterClash P S i = firstOf (orderedClash P S i) (P .n)
+
+-- The clash of position i with the smallest second. An overhang "takes part in the order of clashes, first and second position being
+-- equal": i itself comes before the positions above it.
 unfoldable pub clashOf : Points → Choice → ℕ → Clash
-clashOf P S i = firstOf (orderedClash P S i) (P .n)
+clashOf P S i = orElse (ownClash P S i) (laterClash P S i)
 
 -- "The clash named is the pair with the smallest first position, then the smallest second, first below second."
 unfoldable pub firstClash : Points → Choice → Clash

@@ -12,7 +12,7 @@ ghost use Rattle.labeling.specs.Conflicts.{overlapB, hitsB};
 ghost use Rattle.format.specs.Sheet.{pointCount, pointsOf};
 ghost use Rattle.format.specs.Plate.{choiceOf};
 ghost use Rattle.format.specs.Stretches.{stretchesOverlap};
-ghost use Rattle.clash.specs.FirstClash.{isClash, clashIf, pairClash, ownClash, clashOf, firstClash};
+ghost use Rattle.clash.specs.FirstClash.{isClash, clashIf, pairClash, ownClash, laterClash, clashOf, firstClash};
 ghost use Rattle.clash.specs.ChoiceFlags.{nobodyInside, held, flagsOf};
 
 // Whether two labels met, a label met a leader, or a label leaves the map.
@@ -161,15 +161,11 @@ fn own_clash(sheet: &[u8], inside: &[bool; 256], position: u8) -> Clash
     Clash::None
 }
 
-// The clash of a position with itself, or else with the smallest position above it.
-fn clash_of(sheet: &[u8], inside: &[bool; 256], first: u8) -> Clash
+// The clash of a position with the smallest position above it.
+fn later_clash(sheet: &[u8], inside: &[bool; 256], first: u8) -> Clash
     requires { ⌜ first < pointCount (now sheet) ⌝ }
-    ensures { λ r. ⌜ r ≡ clashOf (pointsOf (now (sheet .entry))) (held (now (inside .entry))) first ⌝ }
+    ensures { λ r. ⌜ r ≡ laterClash (pointsOf (now (sheet .entry))) (held (now (inside .entry))) first ⌝ }
 {
-    let own = own_clash(sheet, inside, first);
-    if is_clash(own) {
-        return own;
-    }
     let n = point_count(sheet);
     let mut second = first + 1;
     while second < n {
@@ -180,6 +176,18 @@ fn clash_of(sheet: &[u8], inside: &[bool; 256], first: u8) -> Clash
         second += 1;
     }
     Clash::None
+}
+
+// The clash of a position with itself, or else with the smallest position above it.
+fn clash_of(sheet: &[u8], inside: &[bool; 256], first: u8) -> Clash
+    requires { ⌜ first < pointCount (now sheet) ⌝ }
+    ensures { λ r. ⌜ r ≡ clashOf (pointsOf (now (sheet .entry))) (held (now (inside .entry))) first ⌝ }
+{
+    let own = own_clash(sheet, inside, first);
+    if is_clash(own) {
+        return own;
+    }
+    later_clash(sheet, inside, first)
 }
 
 // The first clash of the choice that the flags hold.

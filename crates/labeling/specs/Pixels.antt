@@ -74,11 +74,11 @@ module _ (P : Points) (i j k m : ℕ) (i-over : P .row j < P .row i → P .row i
 
 -- what the marks and a conflict are, by where the points are labeled
 module _ (P : Points) (S : Choice) (i : ℕ) (p : Pixel) where
-  inside-is : S i ≡ true → Marks P S i p → Label P i p
+  pub inside-is : S i ≡ true → Marks P S i p → Label P i p
   unfolding Marks
   inside-is e m = rw e at m
 
-  inside-of : S i ≡ true → Label P i p → Marks P S i p
+  pub inside-of : S i ≡ true → Label P i p → Marks P S i p
   unfolding Marks
   inside-of e m = rw e m
 

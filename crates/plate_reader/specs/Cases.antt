@@ -22,7 +22,7 @@ use Rattle.clash.specs.declared.ClashKind.{ClashKind}
 use Rattle.clash.specs.declared.ClashKind.the-variants.{Labels, LabelAndLeader, Overhang}
 use Rattle.clash.specs.declared.Clash.{Clash}
 use Rattle.clash.specs.declared.Clash.the-variants.{None, Between}
-use Rattle.clash.specs.FirstClash.{pairClash, ownClash, firstOf, clashOf, firstClash}
+use Rattle.clash.specs.FirstClash.{pairClash, ownClash, firstOf, laterClash, clashOf, firstClash}
 use Rattle.clash.specs.ClashPixels.{Named, first-clash-right}
 use Rattle.plate_reader.specs.PlateQuestions.{sheetOf, insideList, outsidePairs, sectionsFit, pairsRight, sectionsNo, plateNo}
 
@@ -270,8 +270,8 @@ each (c ∷ cs) e = (right c (and-left _ _ e), each cs (and-right (rightB c) _ e
 all-pass : T (eachB cases)
 unfolding twoBytes unlikeEarlier pointNo pointsNo questionsNo sheetNo plateSheetNo insideBelow insideSection
     pairs outsideSection plateOf among before insert outsideBelow outside nextMargin placedFrom placed conflictB
-    apartB withinB validB every weightBelow weight put everyChoice agreeB behindB onlyBestB pairClash ownClash firstOf clashOf
-    firstClash sheetOf insideList outsidePairs sectionsFit ascending pairsRight sectionsNo plateNo
+    apartB withinB validB every weightBelow weight put everyChoice agreeB behindB onlyBestB pairClash ownClash firstOf laterClash
+    clashOf firstClash sheetOf insideList outsidePairs sectionsFit ascending pairsRight sectionsNo plateNo
 all-pass = tt
 
 T-is : (b : Bool) → T b → b ≡ true

@@ -25,7 +25,9 @@ columns : (c : tie.After-ends-by)
     → c .ends-by .result
     ≡ (let a = c .before .before .before .before .before .args in
     leb (column (a .sheet .now) (a .position) + labelWidth (a .sheet .now)) (mapWidth (a .sheet .now)))
-columns c = cc
+columns c =
+    c .ends-by .ensures
+    ∙ (λ d. leb (c .before .before .before .column .ensures d + c .before .before .label-width .ensures d) (c .before .map-width .ensures d))
 
 row-requires : tie.Need-row-requires
 row-requires c κs = search needs
@@ -44,7 +46,9 @@ rows : (c : tie.After-ends-by2)
     → c .ends-by2 .result
     ≡ (let a = c .before .before .before .before .before .before .before .before .before .before .args in
     leb (row (a .sheet .now) (a .position) + labelHeight (a .sheet .now)) (mapHeight (a .sheet .now)))
-rows c = cc
+rows c =
+    c .ends-by2 .ensures
+    ∙ (λ d. leb (c .before .before .before .row .ensures d + c .before .before .label-height .ensures d) (c .before .map-height .ensures d))
 
 returns : tie.Need-returns
 returns c =
