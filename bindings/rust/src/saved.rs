@@ -5,8 +5,9 @@ use crate::{check_sheet, ffi, Desk, Refusal, SHEET};
 use std::error::Error;
 use std::fmt;
 
-/// The version byte of a saved desk.
-pub const SAVED_VERSION: u8 = 1;
+/// The version byte of a saved desk. A best count that was worked out by other
+/// rules has another version.
+pub const SAVED_VERSION: u8 = 2;
 
 /// How many bytes a saved desk has.
 pub const SAVED: usize = 208;
@@ -17,7 +18,7 @@ impl Desk {
     ///
     /// | bytes | |
     /// |---|---|
-    /// | 0 | the version, 1 |
+    /// | 0 | the version, 2 |
     /// | 1 | 1 if a sheet is loaded, else 0 |
     /// | 2, 3 | the best count of the loaded sheet, else 0 |
     /// | 4, 5 | the last number |

@@ -46,6 +46,21 @@ fn verdicts() {
     assert_eq!(marked, Ok(Marked { number: 3, verdict }));
 }
 
+/// Document 02 (a)'s point with P1's map and label: it can only be outside.
+#[test]
+fn an_overhang() {
+    let edge = [1, 20, 0, 10, 0, 4, 0, 2, 0, 1, 17, 0, 18, 0, 2, 0];
+    let desk = load(Desk::new(), &edge);
+    shows(&desk, Some(&edge), Some(0), 0);
+    let (_, marked) = desk.mark(&[1, 0]);
+    let verdict = Verdict::Clash {
+        first: 0,
+        second: 0,
+        kind: ClashKind::Overhang,
+    };
+    assert_eq!(marked, Ok(Marked { number: 1, verdict }));
+}
+
 #[test]
 fn forks_go_on_alone() {
     let desk = mark(load(Desk::new(), &P1), &[0]);

@@ -23,12 +23,12 @@ fn refused(saved: &[u8], error: RestoreError, words: &str) {
 
 #[test]
 fn the_layout() {
-    let mut saved = vec![1, 1, 2, 0, 3, 0];
+    let mut saved = vec![2, 1, 2, 0, 3, 0];
     saved.extend(P1);
     saved.resize(208, 0);
     assert_eq!(desk().to_bytes()[..], saved);
     let mut fresh = [0; 208];
-    fresh[0] = 1;
+    fresh[0] = 2;
     assert_eq!(Desk::new().to_bytes(), fresh);
 }
 
@@ -69,7 +69,7 @@ fn another_length() {
 #[test]
 fn another_version() {
     for version in (0..=255).filter(|&version| version != SAVED_VERSION) {
-        let words = format!("the version is 1, not {version}");
+        let words = format!("the version is 2, not {version}");
         let saved = changed(&desk(), 0, &[version]);
         refused(&saved, RestoreError::Version(version), &words);
     }
