@@ -142,9 +142,9 @@ struct desk_load_result desk_load(struct desk desk,
 
 /* A mark. The number is that of the first no (51, 31 to 33, 52), 0 if the list
    is marked. Then list_number is the list's number; a valid list has its count
-   and shortfall set, a clash its first and second position, which are one and
-   the same for a label that leaves the map. Every other field is 0; on a refusal
-   all but the desk and the number are 0. */
+   and shortfall set, a clash its first and second position, the first below the
+   second, or both the same for a label that leaves the map. Every other field is
+   0; on a refusal all but the desk and the number are 0. */
 struct desk_mark_result {
     struct desk desk;
     uint32_t number;

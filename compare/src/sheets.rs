@@ -1,6 +1,7 @@
 //! Made-up sheets that keep the rules.
 
-use reference::random::{sheet_bytes, Random};
+use reference::random::{sheet_bytes, with_room, Random};
+use reference::{check_sheet, Sheet};
 
 /// A sheet of 0 to 32 points.
 pub fn sheet(random: &mut Random) -> Vec<u8> {
@@ -49,19 +50,18 @@ pub fn small_sheet(random: &mut Random) -> Vec<u8> {
     some_with_room(random, sheet)
 }
 
-/// The sheet as it is, or on a map that reaches a label further right and up: one as often as the
-/// other. There every label is on the map, unless a side would be above 4,096.
-fn some_with_room(random: &mut Random, mut sheet: Vec<u8>) -> Vec<u8> {
+/// The sheet as it is, or on a map with room for every label, unless a side of that would be above
+/// 4,096: one as often as the other.
+fn some_with_room(random: &mut Random, bytes: Vec<u8>) -> Vec<u8> {
     if random.below(2) == 0 {
-        return sheet;
+        return bytes;
     }
-    // Where the map's sides stand, and the label's.
-    for (map, label) in [(1, 5), (3, 7)] {
-        let side = |at| u16::from_le_bytes([sheet[at], sheet[at + 1]]);
-        let longer = (side(map) + side(label) - 1).min(4096);
-        sheet[map..map + 2].copy_from_slice(&longer.to_le_bytes());
+    let sheet = Sheet::read(&bytes).expect("a made-up sheet keeps the rules");
+    let roomy = with_room(&sheet);
+    match check_sheet(&roomy) {
+        0 => roomy,
+        _ => bytes,
     }
-    sheet
 }
 
 fn label_side(random: &mut Random) -> u16 {

@@ -172,7 +172,7 @@ fn clash((first, second): (u32, u32), kind: ClashKind) -> Verdict {
         ClashKind::Overhang => first == second,
         _ => first < second,
     };
-    promised(ordered, "an overhang has one position, other clashes two");
+    promised(ordered, "a clash's positions are in order, an overhang's equal");
     Verdict::Clash {
         first: position(first),
         second: position(second),

@@ -73,7 +73,7 @@ first-at f (suc m) {i} {j} {k} e = which (or-between (firstOf f m) (f m) e) (fir
 abbrev pub Overhangs : Points → Choice → ℕ → Type 0
 Overhangs P S i = (S i ≡ true) × (LabelOnMap P i → ⊥)
 
--- Two positions clash if they mark one pixel. Document 02 (a): "an overhang counts as a clash of a position with itself".
+-- Two different positions clash if they mark one pixel. Document 02 (a): "an overhang counts as a clash of a position with itself".
 abbrev pub Clashing : Points → Choice → ℕ → ℕ → Type 0
 Clashing P S i j = ((i ≡ j) × Overhangs P S i) ⊎ ((i ≡ j → ⊥) × Shared P S i j)
 

@@ -22,7 +22,7 @@ abbrev pub orElse : Clash → Clash → Clash
 orElse None later = later
 orElse (Between i j k) later = Between i j k
 
--- The clash of i and j by the kind k, where the test says that they met.
+-- The clash of i and j by the kind k, where the test says that they clash.
 abbrev pub clashIf : Bool → ℕ → ℕ → ClashKind → Clash
 clashIf met i j k = cond met (Between i j k) None
 
@@ -56,6 +56,7 @@ laterClash P S i = firstOf (orderedClash P S i) (P .n)
 unfoldable pub clashOf : Points → Choice → ℕ → Clash
 clashOf P S i = orElse (ownClash P S i) (laterClash P S i)
 
--- "The clash named is the pair with the smallest first position, then the smallest second, first below second."
+-- "The clash named is the pair with the smallest first position, then the smallest second, first below second." Of an overhang the two are
+-- equal.
 unfoldable pub firstClash : Points → Choice → Clash
 firstClash P S = firstOf (clashOf P S) (P .n)

@@ -1,4 +1,4 @@
--- WHAT A READER MUST BELIEVE: the first clash, by tests. (Or believe the theorem below: it says the same over pixels.)
+-- WHAT A READER MUST BELIEVE: the first clash, by tests. (Or believe the theorem below: it says the same over pixels and the frame.)
 pub mod FirstClash
 -- A choice as flags, which contracts of the steps cite, with its facts.
 pub mod ChoiceFlags

@@ -161,7 +161,7 @@ fn own_clash(sheet: &[u8], inside: &[bool; 256], position: u8) -> Clash
     Clash::None
 }
 
-// The clash of a position with the smallest position above it.
+// The clash of a position with the smallest position above it that it clashes with.
 fn later_clash(sheet: &[u8], inside: &[bool; 256], first: u8) -> Clash
     requires { ⌜ first < pointCount (now sheet) ⌝ }
     ensures { λ r. ⌜ r ≡ laterClash (pointsOf (now (sheet .entry))) (held (now (inside .entry))) first ⌝ }
@@ -178,7 +178,7 @@ fn later_clash(sheet: &[u8], inside: &[bool; 256], first: u8) -> Clash
     Clash::None
 }
 
-// The clash of a position with itself, or else with the smallest position above it.
+// The clash of a position with itself, or else with the smallest position above it that it clashes with.
 fn clash_of(sheet: &[u8], inside: &[bool; 256], first: u8) -> Clash
     requires { ⌜ first < pointCount (now sheet) ⌝ }
     ensures { λ r. ⌜ r ≡ clashOf (pointsOf (now (sheet .entry))) (held (now (inside .entry))) first ⌝ }

@@ -62,7 +62,7 @@ pub record LoadRight (calls : Calls) (s w : List ℕ) : Type 0 where
 
 -- What the verdict on the list l of the sheet s says.
 pub record VerdictRight (s l : List ℕ) (v : VerdictOutcome) : Type 0 where
-  -- "the desk calls C valid exactly when no pixel has two marks"; document 02 (a): "also ... that no inside label leaves the map"
+  -- "the desk calls C valid exactly when no pixel has two marks"; document 02 (a): "also ask that no inside label leaves the map"
   pub valid-exactly : (v .valid ≡ true) ↔ Valid (pointsOf s) (choiceOfList l)
   -- "a valid C is answered with C's count and, as its shortfall, the best count less C's count",
   pub valid : Valid (pointsOf s) (choiceOfList l) → v ≡ validOutcome (listCount l) (bestCount (pointsOf s) - listCount l)

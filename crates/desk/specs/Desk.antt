@@ -135,8 +135,8 @@ markOutcome (RefusedMark k) = record { refused = true; no = k; number = none; ve
 abbrev pub firstNo : Desk → List ℕ → ℕ
 firstNo d l = markNo (d .held .loaded) (pointCount (d .held .sheet)) (d .last) l
 
--- The verdict by the first clash: "valid, with the list's count and its shortfall; or a clash, with two positions and whether two labels
--- met or a label met a leader". The shortfall is 0 where the count exceeds the best.
+-- The verdict by the first clash: "valid, with the list's count and its shortfall; or a clash, with two positions" and its kind. The
+-- shortfall is 0 where the count exceeds the best.
 abbrev pub verdictBy : Clash → ℕ → ℕ → Verdict
 verdictBy None count best = Valid count (best - count)
 verdictBy (Between first second kind) count best = ClashVerdict first second kind

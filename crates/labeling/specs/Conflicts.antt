@@ -1,5 +1,6 @@
--- When two points conflict, by arithmetic. Pixels.antt shows that two points conflict exactly if they mark one pixel. Beside each
--- fact stands the test that computes it; Tests.antt shows that they agree. Assumes nothing.
+-- When two points conflict, and the test of validity, by arithmetic. Pixels.antt shows that two points conflict exactly if they mark one
+-- pixel, and that the test decides validity. Beside each fact stands the test that computes it; Tests.antt shows that they agree.
+-- Assumes nothing.
 use mathlib.Core.Path.{_≡_}
 use mathlib.Core.Bool.{Bool, true, cond, not, _&&_, _||_}
 use Prim.Native.Nat.{ℕ, zero, suc, _+_, _≤_, _<_}
@@ -49,5 +50,6 @@ apartB P S = every (λ i. every (λ j. eqb i j || not (conflictB P S i j)) (P .n
 unfoldable pub withinB : Points → Choice → Bool
 withinB P S = every (λ i. not (S i) || labelOnMapB P i) (P .n)
 
+-- The choice is valid.
 unfoldable pub validB : Points → Choice → Bool
 validB P S = apartB P S && withinB P S

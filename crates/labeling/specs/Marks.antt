@@ -1,5 +1,5 @@
--- The pixels that a point marks, and when a choice is valid (document 01, "Marks and pixels"). Beside each kind of mark stands the
--- test that computes it; Tests.antt shows that they agree. Assumes nothing.
+-- The pixels that a point marks, and when a choice is valid (document 01, "Marks and pixels", and document 02 (a)). Beside each kind of
+-- mark stands the test that computes it; Tests.antt shows that they agree. Assumes nothing.
 use mathlib.Core.Path.{_≡_}
 use mathlib.Core.Bool.{Bool, true, false, cond, _&&_, _||_}
 use mathlib.Core.Logic.{_⊎_}

@@ -37,8 +37,8 @@ pub record Arranged (P : Points) (v : ℕ → ℕ) (f : ℕ → Bool) (H : Heigh
 pub record SameChoice (H : Heights) (position : ℕ → ℕ) (R S : ℕ → Bool) : Type 0 where
   pub at : (i : ℕ) → Point H i → R (position i) ≡ S i
 
--- The permissions f are right: needed, since a position that is inside in a choice without conflicts is permitted; and enough, since the
--- label of a permitted position is on the map.
+-- The permissions f are right: needed, since a position that is inside in a choice without conflicts and overhangs is permitted; and enough,
+-- since the label of a permitted position is on the map.
 pub record Permits (P : Points) (f : ℕ → Bool) : Type 0 where
   pub needed : (S : Choice) → Conflicts.Free P S → (p : ℕ) → p < P .n → S p ≡ true → f p ≡ true
   pub enough : (p : ℕ) → p < P .n → f p ≡ true → LabelOnMap P p

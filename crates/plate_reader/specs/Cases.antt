@@ -1,5 +1,6 @@
--- Document 01's cases P1 to P10 and document 02's, from the sheet's bytes: one table, one theorem. What the theorem says is in the words of labeling
--- (valid and best over pixels) and of format's Plate.antt; the tests only compute it. Assumes nothing.
+-- Document 01's cases P1 to P10, and labels at the map's edges (document 02 (a)), from the sheet's bytes: one table, one theorem. What the
+-- theorem says is in the words of labeling (valid and best over pixels) and of format's Plate.antt; the tests only compute it.
+-- Assumes nothing.
 use mathlib.Core.Path.{_≡_, refl}
 use mathlib.Core.Bool.{Bool, true, false, _&&_}
 use mathlib.Core.List.{List, [], _∷_, _++_}
@@ -151,7 +152,7 @@ cases =
       expected = clashes 1 1 Overhang;
       added = 1 ∷ 1 ∷ 1 ∷ 0 ∷ 0 ∷ [];
     } ∷
-    -- (8,3) outside meets the label of (6,2); (18,5) between them overhangs: the pair with the smaller first position comes first
+    -- (8,3) outside meets the label of (6,2); (18,5), between them in the list, overhangs: the pair comes first
     record {
       sheet = framed 3 (at 1 8 3 (at 2 18 5 (at 3 6 2 [])));
       inside = 1 ∷ 2 ∷ [];
