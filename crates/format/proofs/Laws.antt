@@ -3,7 +3,7 @@ use mathlib.Core.Path.{_≡_, refl, _∙_}
 use mathlib.Core.Bool.{Bool, true, false, not}
 use mathlib.Core.List.{List}
 use Prim.Native.Nat.{ℕ, zero, suc, _+_, _<_}
-use lib.Dec.{eqb, ltb}
+use lib.Dec.{eqb, leb}
 use borrow.Author.Tests.{eq-eqb, ne-eqb}
 use native.Mathlib.Omega.{arith}
 use native.Mathlib.Numerals.{add-one}
@@ -51,9 +51,9 @@ no-outcome r k e ne = rw (← e, ne-eqb r 0 ne)
 
 -- THE MARGIN RULE
 
--- "if its row is less than h below the previous row": position i, where j is the previous one.
+-- "If its row is at most h below the previous row": position i, where j is the previous one.
 abbrev pub closeBelow : Points → ℕ → ℕ → Bool
-closeBelow P j i = ltb (P .row j) (P .row i + P .h)
+closeBelow P j i = leb (P .row j) (P .row i + P .h)
 
 module _ (P : Points) (j k i : ℕ) where
   pub margin-near : closeBelow P j i ≡ true → k + 1 ≡ nextMargin P j k i

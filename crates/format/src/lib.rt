@@ -140,11 +140,18 @@ pub fn label_on_map(sheet: &[u8], position: u8) -> bool
     false
 }
 
+// The row `lower` is at most `height` below the row `upper`, or above it.
+fn close_below(upper: u16, lower: u16, height: u16) -> bool
+    ensures { λ r. ⌜ r ≡ leb upper (lower + height) ⌝ }
+{
+    upper as u32 <= lower as u32 + height as u32
+}
+
 // The margin column of the outside position that comes next after the position `previous` in the margin column `margin`.
 pub fn next_margin(sheet: &[u8], previous: u8, margin: u8, position: u8) -> u16
     ensures { λ r. ⌜ r ≡ nextMargin (pointsOf (now (sheet .entry))) previous margin position ⌝ }
 {
-    if within(
+    if close_below(
         row(sheet, previous),
         row(sheet, position),
         label_height(sheet),

@@ -1,4 +1,4 @@
--- Single pixels looked at: a list of pixels with the position that marks each of them, or doesn't; and such lists for P8 and P9. Since the
+-- Single pixels looked at: a list of pixels with the position that marks each of them, or doesn't; and such lists for P8, P9 and their like. Since the
 -- margin never conflicts, a leader or an outer label that is drawn wrong there passes every theorem about validity; a look refuses it.
 -- Assumes nothing.
 use mathlib.Core.Path.{_≡_, refl}
@@ -83,28 +83,47 @@ eight-seen : Seen eight fourth eight-looks
 unfolding eight fourth eight-looks marksB before insert outsideBelow outside nextMargin placedFrom placed marginIn marginColumn
 eight-seen = seen eight fourth eight-looks refl
 
--- P9's rows with the same columns: outside in margin columns 0, 1 and 0.
-nine : Points
-nine = record {
+-- Three points in the same columns and these rows.
+three : List ℕ → Points
+three rows = record {
   n = 3;
   mapWidth = 20;
   mapHeight = 12;
   w = 4;
   h = 3;
   column = λ i. getD (5 ∷ 0 ∷ 2 ∷ []) i 0;
-  row = λ i. getD (10 ∷ 9 ∷ 6 ∷ []) i 0;
+  row = λ i. getD rows i 0;
 }
+
+-- P9's rows: outside in margin columns 0, 1 and 2.
+nine : Points
+nine = three (10 ∷ 9 ∷ 6 ∷ [])
 
 nine-looks : List Look
 nine-looks =
     -- the second, in margin column 1: a leader up to column -4, an outer label that starts at column -5
     marked 1 (inMargin 3 9) ∷ unmarked 1 (inMargin 3 10) ∷ marked 1 (inMargin 4 9) ∷ marked 1 (inMargin 4 10) ∷
-    -- the third, 3 rows below the second, in margin column 0 again
-    marked 2 (inMargin 0 7) ∷ unmarked 2 (inMargin 4 6) ∷ []
+    -- the third, 3 rows below the second, in margin column 2: a leader up to column -8, an outer label of rows 6 to 8 from column -9 on
+    marked 2 (inMargin 7 6) ∷ unmarked 2 (inMargin 7 7) ∷ marked 2 (inMargin 8 6) ∷ marked 2 (inMargin 8 8) ∷ unmarked 2 (inMargin 8 9) ∷ []
 
 nine-seen : Seen nine (λ i. false) nine-looks
-unfolding nine nine-looks marksB before insert outsideBelow outside nextMargin placedFrom placed marginIn marginColumn
+unfolding nine three nine-looks marksB before insert outsideBelow outside nextMargin placedFrom placed marginIn marginColumn
 nine-seen = seen nine (λ i. false) nine-looks refl
+
+-- Rows 10, 9 and 5: outside in margin columns 0, 1 and 0.
+lower : Points
+lower = three (10 ∷ 9 ∷ 5 ∷ [])
+
+lower-looks : List Look
+lower-looks =
+    -- the second, in margin column 1 as in P9
+    marked 1 (inMargin 3 9) ∷ unmarked 1 (inMargin 3 10) ∷ marked 1 (inMargin 4 9) ∷ marked 1 (inMargin 4 10) ∷
+    -- the third, 4 rows below the second, in margin column 0: an outer label of rows 5 to 7; the first's starts at row 10
+    marked 2 (inMargin 0 7) ∷ unmarked 2 (inMargin 4 5) ∷ unmarked 2 (inMargin 0 8) ∷ unmarked 0 (inMargin 0 9) ∷ marked 0 (inMargin 0 10) ∷ []
+
+lower-seen : Seen lower (λ i. false) lower-looks
+unfolding lower three lower-looks marksB before insert outsideBelow outside nextMargin placedFrom placed marginIn marginColumn
+lower-seen = seen lower (λ i. false) lower-looks refl
 
 -- Two outside points of one row, (5,3) and (2,3): the smaller column stands first.
 one-row : Points

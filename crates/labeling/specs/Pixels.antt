@@ -94,8 +94,8 @@ module _ (P : Points) (S : Choice) (i : ℕ) (p : Pixel) where
 pub outside-apart : (P : Points) (S : Choice) (p : Pixel) (i j : ℕ)
     → i < P .n → j < P .n → S i ≡ false → S j ≡ false → Marks P S i p → Marks P S j p → P .row i ≡ P .row j
 outside-apart P S p i j l m a b x y =
-    out-out P i j (marginColumn P S i) (marginColumn P S j) (lower-further P S i j l m a b) (lower-further P S j i m l b a) p
-    (outside-is P S i p a x) (outside-is P S j p b y)
+    out-out P i j (marginColumn P S i) (marginColumn P S j) (λ lo hi. lower-further P S i j l m a b lo (omega arith))
+    (λ lo hi. lower-further P S j i m l b a lo (omega arith)) p (outside-is P S i p a x) (outside-is P S j p b y)
 
 -- (ii) two points share a marked pixel exactly if they conflict (ConflictTable.antt: by the table of height order)
 pub shared-conflict : (P : Points) (S : Choice) (p : Pixel) (i j : ℕ) → i < P .n → j < P .n → Marks P S i p → Marks P S j p

@@ -1,9 +1,9 @@
--- Points, pixels, choices, and the margin rule (document 01, "Marks and pixels"). Assumes nothing.
+-- Points, pixels, choices, and the margin rule (document 01, "Marks and pixels"; document 02, request (b)). Assumes nothing.
 use mathlib.Core.Path.{_≡_}
 use mathlib.Core.Bool.{Bool, false, cond, _&&_, _||_}
 use mathlib.Core.List.{List, [], _∷_}
 use Prim.Native.Nat.{ℕ, zero, suc, _+_, _<_}
-use lib.Dec.{ltb, eqb}
+use lib.Dec.{ltb, leb, eqb}
 
 -- A sheet's figures: the positions 0 to n - 1, the map's sides, the label's width w and height h, and the column and row of each
 -- position. Rows may be shared; columns and rows at n and above mean nothing.
@@ -70,10 +70,10 @@ pub record Placed : Type 0 where
   pub position : ℕ
   pub margin : ℕ
 
--- "Each next takes the previous one's column plus 1 if its row is less than h below the previous row, else column 0": i comes next
--- after j, which has margin column k.
+-- "An outside point takes the previous column plus 1 if its row is at most h below the previous row, else column 0" (document 02,
+-- request (b)): i comes next after j, which has margin column k.
 unfoldable pub nextMargin : Points → ℕ → ℕ → ℕ → ℕ
-nextMargin P j k i = cond (ltb (P .row j) (P .row i + P .h)) (k + 1) 0
+nextMargin P j k i = cond (leb (P .row j) (P .row i + P .h)) (k + 1) 0
 
 -- Position j in margin column k, and after it the list l.
 unfoldable pub placedFrom : Points → ℕ → ℕ → List ℕ → List Placed

@@ -14,7 +14,7 @@ use Rattle.desk.specs.declared.Desk.{Desk}
 use Rattle.desk.specs.declared.LoadAnswer.the-variants.{Accepted, Refused}
 use Rattle.desk.specs.declared.MarkAnswer.the-variants.{Marked, Refused as RefusedMark}
 use Rattle.desk.specs.declared.Verdict.the-variants.{Valid, Clash}
-use Rattle.plate_reader.specs.Cases.{sheet, sheet1, sheet2, sheetOfFive}
+use Rattle.plate_reader.specs.Cases.{sheet, sheet1, sheet2, sheetOfFive, stacked}
 use Rattle.plate_reader.specs.PlateQuestions.{insideList, outsidePairs}
 use Rattle.lines.specs.Text.{ascii, decimalIn, decimal, spaced}
 use Rattle.lines.specs.Listing.{columnsUsed, marginOf, firstLine, place, pointLine, pointLines, listingOf}
@@ -36,6 +36,8 @@ table =
       plate = sheetOfFive ++ 2 ∷ 0 ∷ 1 ∷ 3 ∷ 2 ∷ 0 ∷ 3 ∷ 1 ∷ 4 ∷ 0 ∷ [];
       text = ascii "plate 5 2 2\n1 in\n2 in\n3 out 0\n4 out 1\n5 out 0\n";
     } ∷
+    -- P9: the outside points take columns 0, 1, 2
+    record { plate = stacked 6 ++ 0 ∷ 3 ∷ 0 ∷ 0 ∷ 1 ∷ 1 ∷ 2 ∷ 2 ∷ []; text = ascii "plate 3 0 3\n1 out 0\n2 out 1\n3 out 2\n" } ∷
     -- P2: the first point in column 1, the second in column 0
     record { plate = sheet2 ++ 1 ∷ 2 ∷ 2 ∷ 1 ∷ 0 ∷ 0 ∷ 1 ∷ []; text = ascii "plate 3 1 2\n1 out 1\n2 out 0\n3 in\n" } ∷
     -- P10: no point

@@ -1,5 +1,6 @@
--- Document 01's cases P1 to P10, and labels at the map's edges (document 02 (a)), from the sheet's bytes: one table, one theorem. What the
--- theorem says is in the words of labeling (valid and best over pixels) and of format's Plate.antt; the tests only compute it.
+-- Document 01's cases P1 to P10, labels at the map's edges (document 02 (a)) and stacked outer labels (document 02 (b)), from the sheet's
+-- bytes: one table, one theorem. What the theorem says is in the words of labeling (valid and best over pixels) and of format's Plate.antt;
+-- the tests only compute it.
 -- Assumes nothing.
 use mathlib.Core.Path.{_≡_, refl}
 use mathlib.Core.Bool.{Bool, true, false, _&&_}
@@ -60,6 +61,14 @@ sheet2 = sheet 4 3 3 (at 1 0 5 (at 2 6 6 (at 3 8 7 [])))
 abbrev pub sheet8 : List ℕ
 sheet8 = sheet 4 3 3 (at 1 5 10 (at 2 0 9 (at 3 2 7 [])))
 
+-- Label 4 by 3, all in column 18, so that each label would leave the map: rows 10, 9 and r.
+abbrev pub stacked : ℕ → List ℕ
+stacked r = sheet 4 3 3 (at 1 18 10 (at 2 18 9 (at 3 18 r [])))
+
+-- Two such points, h apart.
+abbrev pub touching : List ℕ
+touching = sheet 4 3 2 (at 1 18 10 (at 2 18 7 []))
+
 -- The start of a sheet with P1's map, 20 by 10, and P1's label, 4 by 2: point count.
 abbrev pub framed : ℕ → List ℕ → List ℕ
 framed n points = 1 ∷ 20 ∷ 0 ∷ 10 ∷ 0 ∷ 4 ∷ 0 ∷ 2 ∷ 0 ∷ n ∷ points
@@ -75,6 +84,12 @@ cases =
     -- one best choice, whose outside points take columns 0, 1, 0 from the top down: the greatest column is neither the last pair's nor the
     -- outside count
     record { sheet = sheetOfFive; inside = 0 ∷ 1 ∷ []; expected = onlyBest; added = 2 ∷ 0 ∷ 1 ∷ 3 ∷ 2 ∷ 0 ∷ 3 ∷ 1 ∷ 4 ∷ 0 ∷ [] } ∷
+    -- document 02 (b): "P9 becomes 0, 1, 2"
+    record { sheet = stacked 6; inside = []; expected = onlyBest; added = 0 ∷ 3 ∷ 0 ∷ 0 ∷ 1 ∷ 1 ∷ 2 ∷ 2 ∷ [] } ∷
+    -- document 02 (b): "outside rows 10, 9, 5 with h = 3 give 0, 1, 0"
+    record { sheet = stacked 5; inside = []; expected = onlyBest; added = 0 ∷ 3 ∷ 0 ∷ 0 ∷ 1 ∷ 1 ∷ 2 ∷ 0 ∷ [] } ∷
+    -- two outside points 3 rows apart with h = 3: side by side
+    record { sheet = touching; inside = []; expected = onlyBest; added = 0 ∷ 2 ∷ 0 ∷ 0 ∷ 1 ∷ 1 ∷ [] } ∷
     -- "On P1, a fresh desk gives list ... 01 00 number 2, clash of 0 and 1"
     record { sheet = sheet1; inside = 0 ∷ []; expected = clashes 0 1 LabelAndLeader; added = 1 ∷ 0 ∷ 2 ∷ 2 ∷ 0 ∷ 1 ∷ 0 ∷ [] } ∷
     -- P2: "only the third inside; margin columns 1 for the first, 0 for the second"
@@ -103,13 +118,6 @@ cases =
     record { sheet = sheet 4 2 2 (at 1 2 3 (at 2 2 5 [])); inside = 0 ∷ 1 ∷ []; expected = onlyBest; added = 2 ∷ 0 ∷ 1 ∷ 0 ∷ [] } ∷
     -- P8: "h = 3, outside rows 10, 9, 7: columns 0, 1, 2"
     record { sheet = sheet8; inside = []; expected = valid; added = 0 ∷ 3 ∷ 0 ∷ 0 ∷ 1 ∷ 1 ∷ 2 ∷ 2 ∷ [] } ∷
-    -- P9: "rows 10, 9, 6: columns 0, 1, 0"
-    record {
-      sheet = sheet 4 3 3 (at 1 5 10 (at 2 0 9 (at 3 2 6 [])));
-      inside = [];
-      expected = valid;
-      added = 0 ∷ 3 ∷ 0 ∷ 0 ∷ 1 ∷ 1 ∷ 2 ∷ 0 ∷ [];
-    } ∷
     -- P10: "n = 0: the plate adds 00 00"
     record { sheet = sheet 4 2 0 []; inside = []; expected = onlyBest; added = 0 ∷ 0 ∷ [] } ∷
     -- document 02 (a): "With P1's map and label a point at (18,2) can then only be outside."

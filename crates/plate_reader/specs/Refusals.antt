@@ -1,15 +1,20 @@
 -- Sheets with the number of their first no: one table, one theorem. It shows each question 11 to 20 refuse something, each limit from
--- both sides, and the order of the questions where a sheet has several that are answered no. Assumes nothing.
+-- both sides, and the order of the questions where a sheet has several that are answered no. Then plates whose margin columns aren't the
+-- rule's. Assumes nothing.
 use mathlib.Core.Path.{_≡_, refl}
 use mathlib.Core.Bool.{Bool, true, _&&_}
 use mathlib.Core.List.{List, [], _∷_, _++_}
 use Prim.Native.Nat.{ℕ, zero, suc}
 use lib.Dec.{eqb}
 use borrow.Author.Tests.{eqb-true}
+use Rattle.labeling.specs.Points.{before, insert, outsideBelow, outside, nextMargin, placedFrom, placed, among}
 use Rattle.labeling.specs.Conflicts.{every}
 use Rattle.labeling.specs.Decide.{and-left, and-right}
 use Rattle.format.specs.Sheet.{twoBytes, unlikeEarlier, pointNo, pointsNo, questionsNo, sheetNo, plateSheetNo}
-use Rattle.plate_reader.specs.Cases.{at, sheet, sheet1}
+use Rattle.format.specs.Plate.{pairs}
+use Rattle.format.specs.Ascending.{ascending}
+use Rattle.plate_reader.specs.PlateQuestions.{sheetOf, insideList, outsidePairs, sectionsFit, pairsRight, sectionsNo, plateNo}
+use Rattle.plate_reader.specs.Cases.{at, sheet, sheet1, stacked, touching}
 
 -- A sheet and the number of its first no, 0 for none.
 pub record Row : Type 0 where
@@ -90,3 +95,11 @@ one-more = (refl, refl)
 pub one-less : (plateSheetNo (sheet 4 2 1 (1 ∷ 0 ∷ 2 ∷ 0 ∷ 3 ∷ [])) ≡ 16) × (sheetNo (sheet 4 2 1 (1 ∷ 0 ∷ 2 ∷ 0 ∷ 3 ∷ [])) ≡ 16)
 unfolding twoBytes every unlikeEarlier pointNo pointsNo questionsNo sheetNo plateSheetNo
 one-less = (refl, refl)
+
+-- 43, "with the margin rule's columns". "Question 43 refuses old plates that have the closer stacking": two points 3 rows apart, both in column
+-- 0, whose outer labels touch; P9 with 0, 1, 0. A column greater than the rule's is refused too: rows 10, 9, 5 with 0, 1, 2.
+pub not-the-rules : (plateNo (touching ++ 0 ∷ 2 ∷ 0 ∷ 0 ∷ 1 ∷ 0 ∷ []) ≡ 43)
+    × (plateNo (stacked 6 ++ 0 ∷ 3 ∷ 0 ∷ 0 ∷ 1 ∷ 1 ∷ 2 ∷ 0 ∷ []) ≡ 43) × (plateNo (stacked 5 ++ 0 ∷ 3 ∷ 0 ∷ 0 ∷ 1 ∷ 1 ∷ 2 ∷ 2 ∷ []) ≡ 43)
+unfolding twoBytes every unlikeEarlier pointNo pointsNo questionsNo plateSheetNo among before insert outsideBelow outside nextMargin
+    placedFrom placed pairs sheetOf insideList outsidePairs sectionsFit ascending pairsRight sectionsNo plateNo
+not-the-rules = (refl, refl, refl)

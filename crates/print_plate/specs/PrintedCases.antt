@@ -1,4 +1,4 @@
--- Where one choice is best, the printed text is its listing; so for P1 it is what document 01 says. Assumes nothing.
+-- Where one choice is best, the printed text is its listing; so for P1 and P9 it is what the documents say. Assumes nothing.
 use mathlib.Core.Path.{_≡_, ap, _∙_}
 use mathlib.Core.List.{List}
 use Prim.Native.Nat.{ℕ, _≤_}
@@ -12,7 +12,7 @@ use Rattle.format.specs.Accepted.{Accepted, accepted}
 use Rattle.format.specs.MakingQuestions.{makingNo, none-making}
 use Rattle.format.specs.Plate.{plateOf}
 use Rattle.format.specs.PlateAgree.{plate-agree}
-use Rattle.plate_reader.specs.Cases.{sheet1, sheetOfFive, all-right}
+use Rattle.plate_reader.specs.Cases.{sheet1, sheetOfFive, stacked, all-right}
 use Rattle.lines.specs.Text.{ascii}
 use Rattle.lines.specs.Listing.{listingOf}
 use Rattle.lines.specs.LineCases.{all-listed}
@@ -52,3 +52,9 @@ pub five-printed : (text : List ℕ) → PrintedText sheetOfFive text → text �
 five-printed text p =
     let c = all-right .1 .0 in
     only-printed sheetOfFive _ (c .accepted) (c .expected) text p ∙ ap listingOf (c .plate) ∙ all-listed .1 .0
+
+-- P9, which has three margin columns.
+pub p9-printed : (text : List ℕ) → PrintedText (stacked 6) text → text ≡ ascii "plate 3 0 3\n1 out 0\n2 out 1\n3 out 2\n"
+p9-printed text p =
+    let c = all-right .1 .1 .0 in
+    only-printed (stacked 6) _ (c .accepted) (c .expected) text p ∙ ap listingOf (c .plate) ∙ all-listed .1 .1 .0

@@ -15,15 +15,15 @@ row-requires-2 c κs = search needs
 label-height-requires : tie.Need-label-height-requires
 label-height-requires c κs = search needs
 
-within-requires : tie.Need-within-requires
-within-requires c κs = search needs
+close-below-requires : tie.Need-close-below-requires
+close-below-requires c κs = search needs
 
 add-result : tie.Need-add-result
 add-result c = search needs
 
 -- the code's test is the rule's
-reach : (c : tie.After-within)
-    → c .within .result
+reach : (c : tie.After-close-below)
+    → c .close-below .result
     ≡ (let a = c .before .before .before .before .before .args in closeBelow (pointsOf (a .sheet .now)) (a .previous) (a .position))
 reach c = cc
 
@@ -44,7 +44,7 @@ next-margin-spec =
     row-requires
     row-requires-2
     label-height-requires
-    within-requires
+    close-below-requires
     add-result
     returns
     returns-2)
