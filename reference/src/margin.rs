@@ -1,4 +1,4 @@
-//! The margin rule: which margin column each outside point takes.
+//! The margin rule: which margin column each outside point takes (documents 01 and 02 (b)).
 
 use crate::sheet::{Choice, Sheet};
 
@@ -19,14 +19,24 @@ pub fn outside_positions(sheet: &Sheet, choice: Choice) -> Vec<usize> {
     outside
 }
 
-/// The outside positions, from the highest row down, each with its margin column.
+/// Is the lower row at most h below the upper one? Outer labels that start in these two rows then
+/// have no free row between them. `lower_row` is below `upper_row`.
+fn too_near(upper_row: u16, lower_row: u16, label_height: u16) -> bool {
+    upper_row - lower_row <= label_height
+}
+
+/// The outside positions, from the highest row down, each with its margin column. The first takes
+/// column 0. Each next takes the previous one's column plus 1 if its row is at most h below the
+/// previous row, else column 0.
 pub fn outside_pairs(sheet: &Sheet, choice: Choice) -> Vec<(usize, u8)> {
     let mut pairs = Vec::new();
     let mut previous: Option<(u16, u8)> = None;
     for position in outside_positions(sheet, choice) {
         let row = sheet.points()[position].row;
         let column = match previous {
-            Some((previous_row, previous_column)) if previous_row - row < sheet.label_height() => {
+            Some((previous_row, previous_column))
+                if too_near(previous_row, row, sheet.label_height()) =>
+            {
                 previous_column + 1
             }
             _ => 0,

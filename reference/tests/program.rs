@@ -28,6 +28,12 @@ fn overhanging() -> Vec<u8> {
     sheet_bytes((20, 10), (4, 2), &[(17, 18, 2)])
 }
 
+/// Three points in rows 10, 9 and another, with label 4 by 3. They can only be outside.
+fn p9_like(third_row: u16) -> Vec<u8> {
+    let points = [(17, 18, 10), (18, 18, 9), (19, 18, third_row)];
+    sheet_bytes((20, 12), (4, 3), &points)
+}
+
 /// A call of a script.
 fn call(kind: u8, part: &[u8]) -> Vec<u8> {
     let mut bytes = vec![kind];
@@ -48,6 +54,10 @@ fn check_best_and_list() {
     assert_eq!(run("check", &overhanging()), "accepted\n");
     assert_eq!(run("best", &overhanging()), "0\n");
     assert_eq!(run("list", &overhanging()), "plate 1 0 1\n17 out 0\n");
+    let three = "plate 3 0 3\n17 out 0\n18 out 1\n19 out 2\n";
+    assert_eq!(run("list", &p9_like(6)), three);
+    let two = "plate 3 0 2\n17 out 0\n18 out 1\n19 out 0\n";
+    assert_eq!(run("list", &p9_like(5)), two);
 }
 
 #[test]
@@ -59,6 +69,16 @@ fn read() {
     assert_eq!(run("read", &p1()), "refused 41\n");
     let plate = [&overhanging()[..], &[1, 0, 0]].concat();
     assert_eq!(run("read", &plate), "refused 44\n");
+    let three_columns = [0, 3, 0, 0, 1, 1, 2, 2];
+    let plate = [&p9_like(6)[..], &three_columns].concat();
+    assert_eq!(run("read", &plate), "accepted 0\n");
+    let plate = [&p9_like(5)[..], &three_columns].concat();
+    assert_eq!(run("read", &plate), "refused 43\n");
+    let two_columns = [0, 3, 0, 0, 1, 1, 2, 0];
+    let plate = [&p9_like(6)[..], &two_columns].concat();
+    assert_eq!(run("read", &plate), "refused 43\n");
+    let plate = [&p9_like(5)[..], &two_columns].concat();
+    assert_eq!(run("read", &plate), "accepted 0\n");
 }
 
 #[test]

@@ -1,6 +1,8 @@
-//! Randomized tests: the runs against pixels in a set, the search against trying every choice.
+//! Randomized tests: the runs against pixels in a set, the search against trying every choice, the
+//! margin columns against the rows that outer labels take.
 
 use std::collections::HashSet;
+use std::ops::RangeInclusive;
 
 use reference::pixels::{marked_runs, share_a_pixel};
 use reference::random::{falling_sheet, random_sheet, with_room, Random};
@@ -32,6 +34,34 @@ fn small_dense(random: &mut Random, most_points: u16, side: u16, most_label: u16
     some_with_room(random, Sheet::read(&bytes).unwrap())
 }
 
+/// A sheet of up to 32 points with sides and label sides up to these.
+fn any_size(random: &mut Random, most_side: u16, most_label: u16) -> Sheet {
+    let side = random.between(4, most_side);
+    let label = (random.between(1, most_label), random.between(1, most_label));
+    let n = random.between(1, 32);
+    Sheet::read(&random_sheet(random, (side, side), label, n)).unwrap()
+}
+
+/// An outer label's columns and rows.
+struct OuterLabel {
+    columns: RangeInclusive<i32>,
+    rows: RangeInclusive<i32>,
+}
+
+/// The outer label of a point in margin column k, in document 01's words.
+fn outer_label(sheet: &Sheet, position: usize, k: u8) -> OuterLabel {
+    let r = i32::from(sheet.points()[position].row);
+    let (w, h) = (
+        i32::from(sheet.label_width()),
+        i32::from(sheet.label_height()),
+    );
+    let k = i32::from(k);
+    OuterLabel {
+        columns: -(k + 1) * w..=-k * w - 1,
+        rows: r..=r + h - 1,
+    }
+}
+
 /// The pixels that a point marks, one by one and in document 01's words.
 fn pixels_of(sheet: &Sheet, choice: Choice, position: usize) -> HashSet<(i32, i32)> {
     let point = sheet.points()[position];
@@ -50,12 +80,12 @@ fn pixels_of(sheet: &Sheet, choice: Choice, position: usize) -> HashSet<(i32, i3
             }
         }
         Some(k) => {
-            let k = i32::from(k);
-            for column in -k * w..=c {
+            for column in -i32::from(k) * w..=c {
                 pixels.insert((column, r));
             }
-            for column in -(k + 1) * w..=-k * w - 1 {
-                for row in r..=r + h - 1 {
+            let label = outer_label(sheet, position, k);
+            for column in label.columns {
+                for row in label.rows.clone() {
                     pixels.insert((column, row));
                 }
             }
@@ -305,11 +335,7 @@ fn large_sheets_have_valid_best_choices_that_no_neighbour_beats() {
 fn outside_points_never_clash() {
     let mut random = Random::new(6);
     for _ in 0..2000 {
-        let side = random.between(4, 200);
-        let label = (random.between(1, 40), random.between(1, 40));
-        let n = random.between(1, 32);
-        let bytes = random_sheet(&mut random, (side, side), label, n);
-        let sheet = Sheet::read(&bytes).unwrap();
+        let sheet = any_size(&mut random, 200, 40);
         let choice = Choice(random.next_number() as u32);
         let marked = marked_runs(&sheet, choice);
         for first in 0..marked.len() {
@@ -320,6 +346,95 @@ fn outside_points_never_clash() {
             }
         }
     }
+}
+
+/// The outer labels under a choice.
+fn outer_labels(sheet: &Sheet, choice: Choice) -> Vec<OuterLabel> {
+    margin_columns(sheet, choice)
+        .into_iter()
+        .enumerate()
+        .filter_map(|(position, k)| Some(outer_label(sheet, position, k?)))
+        .collect()
+}
+
+/// The rows that these outer labels take. A leader's row is the lowest row of its outer label, so
+/// nothing left of the map is marked in any other row.
+fn rows_taken(labels: &[OuterLabel]) -> HashSet<i32> {
+    labels.iter().flat_map(|label| label.rows.clone()).collect()
+}
+
+#[test]
+fn outer_labels_in_one_column_have_a_free_row_between_them() {
+    let mut random = Random::new(9);
+    let mut in_one_column = 0;
+    let mut one_row_apart = 0;
+    for _ in 0..2000 {
+        let sheet = any_size(&mut random, 200, 40);
+        let labels = outer_labels(&sheet, Choice(random.next_number() as u32));
+        let taken = rows_taken(&labels);
+        for lower in &labels {
+            for upper in &labels {
+                if lower.columns != upper.columns || lower.rows.start() >= upper.rows.start() {
+                    continue;
+                }
+                let mut between = lower.rows.end() + 1..*upper.rows.start();
+                in_one_column += 1;
+                one_row_apart += u32::from(between.len() == 1);
+                assert!(between.any(|row| !taken.contains(&row)));
+            }
+        }
+    }
+    // Two labels are often in one column, and at times with just one row between them.
+    assert!(in_one_column > 10000, "{in_one_column}");
+    assert!(one_row_apart > 100, "{one_row_apart}");
+}
+
+/// By position: the margin columns had from bands. A band is an unbroken stretch of rows that outer
+/// labels take, with a free row above and below. The points of a band take the columns 0, 1, 2 and
+/// so on from the top down. So a point's column is the number of outside points above it to which
+/// no free row is crossed.
+fn columns_by_bands(sheet: &Sheet, choice: Choice) -> Vec<Option<u8>> {
+    let taken = rows_taken(&outer_labels(sheet, choice));
+    let row_of = |position: usize| i32::from(sheet.points()[position].row);
+    let outside = |position: &usize| !choice.contains(*position);
+    let n = sheet.points().len();
+    let column_of = |position| {
+        let above_in_the_band = |other: &usize| {
+            let (row, other_row) = (row_of(position), row_of(*other));
+            row < other_row && (row..other_row).all(|row| taken.contains(&row))
+        };
+        let above = (0..n).filter(outside).filter(above_in_the_band);
+        above.count() as u8
+    };
+    (0..n)
+        .map(|position| outside(&position).then(|| column_of(position)))
+        .collect()
+}
+
+/// How many pairs of outer labels, in whatever columns, have no row between them and share none.
+fn touching_pairs(labels: &[OuterLabel]) -> usize {
+    let ends: HashSet<i32> = labels.iter().map(|label| label.rows.end() + 1).collect();
+    let starts = labels.iter().map(|label| label.rows.start());
+    starts.filter(|start| ends.contains(start)).count()
+}
+
+#[test]
+fn margin_columns_agree_with_bands_of_rows() {
+    let mut random = Random::new(10);
+    let mut touching = 0;
+    for (most_side, most_label, rounds) in [(200, 40, 2000), (4096, 256, 200)] {
+        for _ in 0..rounds {
+            let sheet = any_size(&mut random, most_side, most_label);
+            let choice = Choice(random.next_number() as u32);
+            assert_eq!(
+                margin_columns(&sheet, choice),
+                columns_by_bands(&sheet, choice)
+            );
+            touching += touching_pairs(&outer_labels(&sheet, choice));
+        }
+    }
+    // Often one label ends just below another, where stacking would leave no gap.
+    assert!(touching > 1000, "{touching}");
 }
 
 #[test]

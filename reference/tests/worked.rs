@@ -1,5 +1,5 @@
-//! The worked plates P1 to P10, the other examples and the plausible errors of document 01, and
-//! labels at the map's edge worked out from document 02 (a).
+//! The worked plates P1 to P10, the other examples and the plausible errors of document 01. Labels
+//! at the map's edge are worked out from document 02 (a), margin columns from document 02 (b).
 
 use reference::random::sheet_bytes;
 use reference::search::{each_choice, search_best, try_all};
@@ -143,6 +143,12 @@ fn p7_one_label_upon_the_other() {
     assert_eq!(best_choices(&sheet), [Choice::of(&[0, 1])]);
 }
 
+/// P9's points: outside, their rows are 10, 9 and 6.
+const P9: [(u16, u16); 3] = [(5, 10), (5, 9), (5, 6)];
+
+/// As P9, but the third point is in row 5.
+const P9_LOWER: [(u16, u16); 3] = [(5, 10), (5, 9), (5, 5)];
+
 #[test]
 fn p8_and_p9_margin_columns() {
     let none = Choice::default();
@@ -150,13 +156,106 @@ fn p8_and_p9_margin_columns() {
     assert_eq!(margin_columns(&p8, none), [Some(0), Some(1), Some(2)]);
     assert_eq!(margin_width(&p8, none), 3);
     assert!(valid(&p8, none));
-    let p9 = sheet_of((4, 3), &[(5, 10), (5, 9), (5, 6)]);
-    assert_eq!(margin_columns(&p9, none), [Some(0), Some(1), Some(0)]);
-    assert_eq!(margin_width(&p9, none), 2);
+    let p9 = sheet_of((4, 3), &P9);
+    assert_eq!(margin_columns(&p9, none), [Some(0), Some(1), Some(2)]);
+    assert_eq!(margin_width(&p9, none), 3);
     assert!(valid(&p9, none));
     // The order of the list doesn't matter, only the rows do.
-    let turned = sheet_of((4, 3), &[(5, 7), (5, 10), (5, 9)]);
-    assert_eq!(margin_columns(&turned, none), [Some(2), Some(0), Some(1)]);
+    for lowest in [7, 6] {
+        let turned = sheet_of((4, 3), &[(5, lowest), (5, 10), (5, 9)]);
+        assert_eq!(margin_columns(&turned, none), [Some(2), Some(0), Some(1)]);
+    }
+}
+
+#[test]
+fn p9_with_the_third_one_row_lower() {
+    // Row 5 is 4 below row 9, and the label height is 3.
+    let none = Choice::default();
+    let sheet = sheet_of((4, 3), &P9_LOWER);
+    assert_eq!(margin_columns(&sheet, none), [Some(0), Some(1), Some(0)]);
+    assert_eq!(margin_width(&sheet, none), 2);
+    assert!(valid(&sheet, none));
+}
+
+#[test]
+fn only_outside_rows_count_for_margin_columns() {
+    // With the second inside, the first and the third are 4 rows apart.
+    let second = Choice::of(&[1]);
+    let sheet = sheet_of((4, 3), &P9);
+    assert_eq!(margin_columns(&sheet, second), [Some(0), None, Some(0)]);
+    assert_eq!(margin_width(&sheet, second), 1);
+    // In P8 they are 3 rows apart.
+    let sheet = sheet_of((4, 3), &[(5, 10), (5, 9), (5, 7)]);
+    assert_eq!(margin_columns(&sheet, second), [Some(0), None, Some(1)]);
+    assert_eq!(margin_width(&sheet, second), 2);
+}
+
+/// The margin columns of two outside points in these rows, the upper one's first. The map is 4,096
+/// rows high.
+fn columns_of_two(height: u16, upper: u16, lower: u16) -> Vec<Option<u8>> {
+    let bytes = bytes_on((20, 4096), (4, height), &[(5, upper), (5, lower)]);
+    margin_columns(&Sheet::read(&bytes).unwrap(), Choice::default())
+}
+
+#[test]
+fn margin_columns_of_the_lowest_and_the_highest_labels() {
+    let one_column = [Some(0), Some(0)];
+    let two_columns = [Some(0), Some(1)];
+    assert_eq!(columns_of_two(1, 1, 0), two_columns);
+    assert_eq!(columns_of_two(1, 2, 0), one_column);
+    assert_eq!(columns_of_two(1, 4095, 4094), two_columns);
+    assert_eq!(columns_of_two(1, 4095, 4093), one_column);
+    assert_eq!(columns_of_two(1, 4095, 0), one_column);
+    assert_eq!(columns_of_two(256, 1, 0), two_columns);
+    assert_eq!(columns_of_two(256, 255, 0), two_columns);
+    assert_eq!(columns_of_two(256, 256, 0), two_columns);
+    assert_eq!(columns_of_two(256, 257, 0), one_column);
+    assert_eq!(columns_of_two(256, 4095, 3839), two_columns);
+    assert_eq!(columns_of_two(256, 4095, 3838), one_column);
+    assert_eq!(columns_of_two(256, 4095, 0), one_column);
+}
+
+/// The number of the plate with these sections, on a map of 20 by 12 with label 4 by 3.
+fn plate_number(points: &[(u16, u16)], sections: &[u8]) -> u8 {
+    let plate = [&bytes_of((4, 3), points)[..], sections].concat();
+    read_plate(&plate).number
+}
+
+#[test]
+fn plates_with_closer_stacking_are_refused() {
+    // All outside: with the rule's columns it is accepted, since nothing inside is always valid.
+    assert_eq!(plate_number(&P9, &[0, 3, 0, 0, 1, 1, 2, 2]), 0);
+    // The third's label is in rows 6 to 8 and the second's leader in row 9.
+    assert_eq!(plate_number(&P9, &[0, 3, 0, 0, 1, 1, 2, 0]), 43);
+    // Rows 6 to 8 and rows 9 to 11: one label stands upon the other.
+    let two = [(5, 9), (5, 6)];
+    assert_eq!(plate_number(&two, &[0, 2, 0, 0, 1, 1]), 0);
+    assert_eq!(plate_number(&two, &[0, 2, 0, 0, 1, 0]), 43);
+}
+
+#[test]
+fn plates_with_a_column_too_many_are_refused() {
+    assert_eq!(plate_number(&P9_LOWER, &[0, 3, 0, 0, 1, 1, 2, 0]), 0);
+    assert_eq!(plate_number(&P9_LOWER, &[0, 3, 0, 0, 1, 1, 2, 1]), 43);
+    assert_eq!(plate_number(&P9_LOWER, &[0, 3, 0, 0, 1, 1, 2, 2]), 43);
+    assert_eq!(plate_number(&P9, &[0, 3, 0, 0, 1, 1, 2, 3]), 43);
+    // Row 5 is 4 below row 9.
+    let two = [(5, 9), (5, 5)];
+    assert_eq!(plate_number(&two, &[0, 2, 0, 0, 1, 0]), 0);
+    assert_eq!(plate_number(&two, &[0, 2, 0, 0, 1, 1]), 43);
+}
+
+#[test]
+fn closer_stacking_is_refused_ahead_of_a_clash() {
+    // Outside as in P9, and a fourth inside. Its label is in columns 3 to 6 of rows 4 to 6; the
+    // third's leader is in row 6 and ends in column 5.
+    let points = [P9[0], P9[1], P9[2], (3, 4)];
+    assert_eq!(plate_number(&points, &[1, 3, 3, 0, 0, 1, 1, 2, 2]), 44);
+    assert_eq!(plate_number(&points, &[1, 3, 3, 0, 0, 1, 1, 2, 0]), 43);
+    // From column 6 on the label is right of that leader.
+    let points = [P9[0], P9[1], P9[2], (6, 4)];
+    assert_eq!(plate_number(&points, &[1, 3, 3, 0, 0, 1, 1, 2, 2]), 0);
+    assert_eq!(plate_number(&points, &[1, 3, 3, 0, 0, 1, 1, 2, 0]), 43);
 }
 
 #[test]
@@ -175,9 +274,10 @@ fn p8_third_in_column_0_is_across_a_leader() {
 
 #[test]
 fn margin_columns_used_by_a_listing() {
-    // Worked out from document 01. The label of 2 or of 3 meets 1, be 1 inside or outside, and that
-    // of 4 meets 0 likewise; 0 and 1 are free of all others. Outside from the top down are 2, 3 and
-    // 4 in rows 5, 4 and 0, so the greatest margin column is neither the first's nor the last's.
+    // Worked out from the documents. The label of 2 or of 3 meets 1, be 1 inside or outside, and
+    // that of 4 meets 0 likewise; 0 and 1 are free of all others. Outside from the top down are 2, 3
+    // and 4 in rows 5, 4 and 0. The last is more than 3 below the one above, so the greatest margin
+    // column is neither the first's nor the last's.
     let points = [(1, 11, 2), (2, 8, 6), (3, 6, 5), (4, 5, 4), (5, 10, 0)];
     let bytes = sheet_bytes((20, 12), (4, 3), &points);
     let sheet = Sheet::read(&bytes).unwrap();
@@ -186,11 +286,29 @@ fn margin_columns_used_by_a_listing() {
         listing(&bytes, best_choice(&sheet)),
         "plate 5 2 2\n1 in\n2 in\n3 out 0\n4 out 1\n5 out 0\n"
     );
-    // Nothing inside: rows 6, 5, 4, 2 and 0, each less than 3 below the one before.
+    // Nothing inside: rows 6, 5, 4, 2 and 0, each at most 3 below the one above.
     assert_eq!(
         listing(&bytes, Choice::default()),
         "plate 5 0 5\n1 out 3\n2 out 0\n3 out 1\n4 out 2\n5 out 4\n"
     );
+}
+
+/// The listing of the best plate of three points in rows 10, 9 and another, with label 4 by 3. All
+/// labels are in columns 18 to 21 and leave the map, so all points are outside.
+fn p9_listing(third_row: u16) -> String {
+    let bytes = bytes_of((4, 3), &[(18, 10), (18, 9), (18, third_row)]);
+    let sheet = Sheet::read(&bytes).unwrap();
+    assert_eq!(best_choices(&sheet), [Choice::default()]);
+    listing(&bytes, best_choice(&sheet))
+}
+
+#[test]
+fn margin_columns_used_by_p9() {
+    let three = "plate 3 0 3\n17 out 0\n18 out 1\n19 out 2\n";
+    assert_eq!(p9_listing(7), three);
+    assert_eq!(p9_listing(6), three);
+    let two = "plate 3 0 2\n17 out 0\n18 out 1\n19 out 0\n";
+    assert_eq!(p9_listing(5), two);
 }
 
 #[test]
