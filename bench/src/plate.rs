@@ -1,5 +1,5 @@
-//! Sheet and plate as bytes (document 01): the questions in their order, the
-//! two orders of the points, and a plate written from a choice.
+//! Sheet and plate as bytes (documents 01 and 02 (a) and (b)): the questions in
+//! their order, the two orders of the points, and a plate written from a choice.
 
 /// The most points a sheet can have.
 pub const MOST: usize = 32;
@@ -171,7 +171,7 @@ pub fn write_plate(
     for i in (1..=n).rev().filter(|&i| !inside[i]) {
         let row = points.row[i];
         let column = match previous {
-            Some((above, column)) if above - row < points.h => column + 1,
+            Some((above, column)) if above - row <= points.h => column + 1,
             _ => 0,
         };
         if let Some(pair) = pairs.next() {

@@ -105,7 +105,7 @@ fn count_of(sheet: &[u8], plate: &[u8]) -> u32 {
     let mut expected = vec![outside.len() as u8];
     let mut column = 0;
     for (k, &i) in outside.iter().enumerate() {
-        let near = k > 0 && points[outside[k - 1]].1 - points[i].1 < h;
+        let near = k > 0 && points[outside[k - 1]].1 - points[i].1 <= h;
         column = if near { column + 1 } else { 0 };
         expected.extend([i as u8, column]);
     }

@@ -1,7 +1,7 @@
 //! Document 01's worked examples that aren't marked (P): the tie, the desk on P1, and the sheet of
-//! each plausible error; a sheet whose last outside point isn't in the greatest margin column; and
-//! labels at the map's edges, by document 02 (a). All that is expected is written by hand from the
-//! documents.
+//! each plausible error; a sheet whose last outside point isn't in the greatest margin column;
+//! labels at the map's edges, by document 02 (a); and the margin columns of document 02 (b). All
+//! that is expected is written by hand from the documents.
 
 use crate::lent::Content;
 use crate::report::Report;
@@ -28,7 +28,7 @@ pub struct Case {
 
 /// In the lower wall's case the label of point 0 reaches up over the row of point 1, right of it,
 /// to where the label of point 2 would stand; points 0 and 2 don't touch point 1's leader.
-pub const CASES: [Case; 11] = [
+pub const CASES: [Case; 14] = [
     Case {
         name: "the tie (4,3), (3,4)",
         map: (20, 12),
@@ -86,6 +86,48 @@ pub const CASES: [Case; 11] = [
         ],
         lists: &[(&[0], "1 valid 0 0")],
         listing: Some("plate 3 0 3\n17 out 0\n18 out 1\n19 out 2\n"),
+    },
+    // Each label would take columns 18 to 21; the map's last one is 19. The third's row is 3 below
+    // the second's.
+    Case {
+        name: "outer labels with air between them (P9)",
+        map: (20, 12),
+        label: (4, 3),
+        points: &[(18, 10), (18, 9), (18, 6)],
+        best: 0,
+        plates: &[
+            (&[0, 3, 0, 0, 1, 1, 2, 2], 0),
+            (&[0, 3, 0, 0, 1, 1, 2, 0], 43),
+            (&[0, 3, 0, 0, 1, 1, 2, 3], 43),
+        ],
+        lists: &[(&[0], "1 valid 0 0"), (&[1, 2], "2 clash 2 2 overhang")],
+        listing: Some("plate 3 0 3\n17 out 0\n18 out 1\n19 out 2\n"),
+    },
+    // The third's row is 4 below the second's.
+    Case {
+        name: "column 0 again from h + 1 below on",
+        map: (20, 12),
+        label: (4, 3),
+        points: &[(18, 10), (18, 9), (18, 5)],
+        best: 0,
+        plates: &[
+            (&[0, 3, 0, 0, 1, 1, 2, 0], 0),
+            (&[0, 3, 0, 0, 1, 1, 2, 2], 43),
+            (&[0, 3, 0, 0, 1, 1, 2, 1], 43),
+        ],
+        lists: &[(&[0], "1 valid 0 0")],
+        listing: Some("plate 3 0 2\n17 out 0\n18 out 1\n19 out 0\n"),
+    },
+    // In one column, rows 7 to 9 and rows 10 to 12 would touch.
+    Case {
+        name: "two outer labels that would touch",
+        map: (20, 12),
+        label: (4, 3),
+        points: &[(18, 7), (18, 10)],
+        best: 0,
+        plates: &[(&[0, 2, 1, 0, 0, 1], 0), (&[0, 2, 1, 0, 0, 0], 43)],
+        lists: &[(&[0], "1 valid 0 0")],
+        listing: Some("plate 2 0 2\n17 out 1\n18 out 0\n"),
     },
     Case {
         name: "touching labels (P3)",
