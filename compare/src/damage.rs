@@ -295,6 +295,28 @@ fn damage_outside(random: &mut Random, plate: &mut [u8], sections: &Sections) {
     }
 }
 
+/// Stacks the outer labels of a plate without a gap: a point just h below the previous one takes
+/// margin column 0. Was there such a point?
+pub fn stack_without_gap(plate: &mut [u8]) -> bool {
+    let Some(sections) = Sections::of(plate) else {
+        return false;
+    };
+    let height = get(plate, 7);
+    let mut moved = false;
+    let mut previous = None;
+    for pair in (sections.outside..plate.len()).step_by(2) {
+        let row = get(plate, 10 + 6 * usize::from(plate[pair]) + 4);
+        let column = match previous {
+            Some((above, column)) if above - row < height => column + 1,
+            _ => 0,
+        };
+        moved |= column != plate[pair + 1];
+        plate[pair + 1] = column;
+        previous = Some((row, column));
+    }
+    moved
+}
+
 /// Damages a list in one or two ways, mostly one.
 pub fn damage_list(random: &mut Random, list: &mut Vec<u8>, n: u8) {
     for _ in 0..one_of(random, &[1, 1, 2]) {

@@ -2,9 +2,9 @@
 //! made up from its own seed alone. The last three parts run programs, the others call the library.
 
 use crate::damage::{aim_at_sheet, damage_list, damage_plate, damage_sheet};
-use crate::damage::{lengthen_much, once_in, wrap_counts};
+use crate::damage::{lengthen_much, once_in, stack_without_gap, wrap_counts};
 use crate::lent::Content;
-use crate::report::{Report, NEVER_A_PLATE, WRAPPED};
+use crate::report::{Report, NEVER_A_PLATE, STACKED, WRAPPED};
 use crate::scripts::{script, script_to_52};
 use crate::sheets::{crowded_sheet, sheet, sheet_of, small_sheet};
 use crate::side_by_side::{check, listing_of_no_plate, making, printing, reading, same, session};
@@ -249,6 +249,17 @@ fn damaged_plates(random: &mut Random, report: &mut Report) -> Compared {
             // Long enough for the sections of any count of points.
             plate = random_bytes(random, 2500);
             report.feature(NEVER_A_PLATE);
+        }
+        6 => {
+            if stack_without_gap(&mut plate) {
+                report.feature(STACKED);
+                let number = reading(report, &plate)?;
+                return same(
+                    "the reading of outer labels without a gap, and 43",
+                    number,
+                    43,
+                );
+            }
         }
         _ => damage_plate(random, &mut plate),
     }

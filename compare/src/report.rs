@@ -89,6 +89,9 @@ pub const ONE_TOO_FEW: &str = "32,767, and refused with 22";
 /// Plates whose two counts, added as bytes, are n.
 pub const WRAPPED: &str = "plates with counts that add to n + 256";
 
+/// Plates with a point in margin column 0 that is just h below the previous one.
+pub const STACKED: &str = "plates with outer labels without a gap";
+
 /// Plates of random bytes.
 pub const NEVER_A_PLATE: &str = "bytes that were never a plate";
 
@@ -145,7 +148,7 @@ pub const PRINTED_PIECES: &str = "printed: an input in pieces";
 pub const SCRIPT_PIECES: &str = "scripts in pieces";
 
 /// Features that must have been seen.
-const FEATURES: [&str; 43] = [
+const FEATURES: [&str; 44] = [
     "best plates with every point inside",
     "best plates with points outside",
     TRIED,
@@ -160,6 +163,7 @@ const FEATURES: [&str; 43] = [
     "accepted plates that are not best",
     "damaged sheets in plates",
     WRAPPED,
+    STACKED,
     EMPTY_START,
     NEVER_A_PLATE,
     LISTED_TOO_SHORT,
