@@ -250,16 +250,14 @@ fn damaged_plates(random: &mut Random, report: &mut Report) -> Compared {
             plate = random_bytes(random, 2500);
             report.feature(NEVER_A_PLATE);
         }
-        6 => {
-            if stack_without_gap(&mut plate) {
-                report.feature(STACKED);
-                let number = reading(report, &plate)?;
-                return same(
-                    "the reading of outer labels without a gap, and 43",
-                    number,
-                    43,
-                );
-            }
+        6 if stack_without_gap(&mut plate) => {
+            report.feature(STACKED);
+            let number = reading(report, &plate)?;
+            return same(
+                "the reading of outer labels without a gap, and 43",
+                number,
+                43,
+            );
         }
         _ => damage_plate(random, &mut plate),
     }

@@ -172,7 +172,10 @@ fn clash((first, second): (u32, u32), kind: ClashKind) -> Verdict {
         ClashKind::Overhang => first == second,
         _ => first < second,
     };
-    promised(ordered, "a clash's positions are in order, an overhang's equal");
+    promised(
+        ordered,
+        "a clash's positions are in order, an overhang's equal",
+    );
     Verdict::Clash {
         first: position(first),
         second: position(second),

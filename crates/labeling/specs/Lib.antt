@@ -5,11 +5,13 @@ pub mod Marks
 pub mod Conflicts
 pub mod Best
 -- THEOREMS OVER PIXELS: conflicts are shared pixels, and the test of validity decides it (Pixels, ConflictTable); a label on the map
--- (Frame); the outside list and the margin columns (Order, Margin); the best is reached and never exceeded (Greatest); single pixels (Looks).
+-- (Frame); the outside list and the margin columns (Order, Margin), and the air between outer labels (Air); the best is reached and never
+-- exceeded (Greatest); single pixels (Looks).
 pub mod Margin
 pub mod Order
 pub mod Pixels
 pub mod Frame
+pub mod Air
 pub mod ConflictTable
 pub mod Greatest
 pub mod Looks

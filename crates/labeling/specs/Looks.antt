@@ -1,6 +1,6 @@
--- Single pixels looked at: a list of pixels with the position that marks each of them, or doesn't; and such lists for P8, P9 and their like. Since the
--- margin never conflicts, a leader or an outer label that is drawn wrong there passes every theorem about validity; a look refuses it.
--- Assumes nothing.
+-- Single pixels looked at: a list of pixels with the position that marks each of them, or doesn't; and such lists for P8, for P9 and for
+-- rows 10, 9, 5. Since the margin never conflicts, a leader or an outer label that is drawn wrong there passes every theorem about
+-- validity; a look refuses it. Assumes nothing.
 use mathlib.Core.Path.{_≡_, refl}
 use mathlib.Core.Bool.{Bool, true, false, not, cond, _&&_}
 use mathlib.Core.List.{List, [], _∷_}
@@ -116,10 +116,10 @@ lower = three (10 ∷ 9 ∷ 5 ∷ [])
 
 lower-looks : List Look
 lower-looks =
-    -- the second, in margin column 1 as in P9
-    marked 1 (inMargin 3 9) ∷ unmarked 1 (inMargin 3 10) ∷ marked 1 (inMargin 4 9) ∷ marked 1 (inMargin 4 10) ∷
-    -- the third, 4 rows below the second, in margin column 0: an outer label of rows 5 to 7; the first's starts at row 10
-    marked 2 (inMargin 0 7) ∷ unmarked 2 (inMargin 4 5) ∷ unmarked 2 (inMargin 0 8) ∷ unmarked 0 (inMargin 0 9) ∷ marked 0 (inMargin 0 10) ∷ []
+    -- the first, in margin column 0: an outer label from row 10 on; the second, in margin column 1
+    marked 0 (inMargin 0 10) ∷ unmarked 0 (inMargin 0 9) ∷ marked 1 (inMargin 4 10) ∷
+    -- the third, 4 rows below the second, in margin column 0 again: an outer label of rows 5 to 7
+    marked 2 (inMargin 0 7) ∷ unmarked 2 (inMargin 0 8) ∷ unmarked 2 (inMargin 4 5) ∷ []
 
 lower-seen : Seen lower (λ i. false) lower-looks
 unfolding lower three lower-looks marksB before insert outsideBelow outside nextMargin placedFrom placed marginIn marginColumn

@@ -14,7 +14,7 @@ use Rattle.labeling.specs.Tests.{dec-free}
 use Rattle.labeling.specs.Margin.{lower-further}
 
 -- What an outside point in margin column k marks.
-abbrev Out : Points → ℕ → ℕ → Pixel → Type 0
+abbrev pub Out : Points → ℕ → ℕ → Pixel → Type 0
 Out P k i p = Leader P k i p ⊎ Outer P k i p
 
 -- A SHARED PIXEL IS A CONFLICT
@@ -82,7 +82,7 @@ module _ (P : Points) (S : Choice) (i : ℕ) (p : Pixel) where
   unfolding Marks
   inside-of e m = rw e m
 
-  outside-is : S i ≡ false → Marks P S i p → Out P (marginColumn P S i) i p
+  pub outside-is : S i ≡ false → Marks P S i p → Out P (marginColumn P S i) i p
   unfolding Marks
   outside-is e m = rw e at m
 

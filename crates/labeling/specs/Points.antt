@@ -1,4 +1,4 @@
--- Points, pixels, choices, and the margin rule (document 01, "Marks and pixels"; document 02, request (b)). Assumes nothing.
+-- Points, pixels, choices, and the margin rule (document 01, "Marks and pixels", and document 02 (b)). Assumes nothing.
 use mathlib.Core.Path.{_≡_}
 use mathlib.Core.Bool.{Bool, false, cond, _&&_, _||_}
 use mathlib.Core.List.{List, [], _∷_}
@@ -70,8 +70,8 @@ pub record Placed : Type 0 where
   pub position : ℕ
   pub margin : ℕ
 
--- "An outside point takes the previous column plus 1 if its row is at most h below the previous row, else column 0" (document 02,
--- request (b)): i comes next after j, which has margin column k.
+-- An outside point "takes the previous column plus 1 if its row is at most h below the previous row, else column 0" (document 02 (b)): i
+-- comes next after j, which has margin column k.
 unfoldable pub nextMargin : Points → ℕ → ℕ → ℕ → ℕ
 nextMargin P j k i = cond (leb (P .row j) (P .row i + P .h)) (k + 1) 0
 

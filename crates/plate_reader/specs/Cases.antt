@@ -65,7 +65,7 @@ sheet8 = sheet 4 3 3 (at 1 5 10 (at 2 0 9 (at 3 2 7 [])))
 abbrev pub stacked : ℕ → List ℕ
 stacked r = sheet 4 3 3 (at 1 18 10 (at 2 18 9 (at 3 18 r [])))
 
--- Two such points, h apart.
+-- Two such points, h apart: in one margin column their outer labels would touch.
 abbrev pub touching : List ℕ
 touching = sheet 4 3 2 (at 1 18 10 (at 2 18 7 []))
 

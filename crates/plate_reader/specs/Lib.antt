@@ -5,7 +5,7 @@ pub mod PlateAnswers
 -- THEOREMS: demand 2, the reader's half; what the questions ask, as facts.
 pub mod DemandTwoReader
 pub mod PlateSections
--- Worked cases, each file a table and its theorem: P1 to P10, single pixels, and sheets that are refused.
+-- Worked cases, each file a table and its theorem: P1 to P10, single pixels, and sheets and plates that are refused.
 pub mod Cases
 pub mod CasePixels
 pub mod Refusals

@@ -96,8 +96,8 @@ pub one-less : (plateSheetNo (sheet 4 2 1 (1 ∷ 0 ∷ 2 ∷ 0 ∷ 3 ∷ [])) �
 unfolding twoBytes every unlikeEarlier pointNo pointsNo questionsNo sheetNo plateSheetNo
 one-less = (refl, refl)
 
--- 43, "with the margin rule's columns". "Question 43 refuses old plates that have the closer stacking": two points 3 rows apart, both in column
--- 0, whose outer labels touch; P9 with 0, 1, 0. A column greater than the rule's is refused too: rows 10, 9, 5 with 0, 1, 2.
+-- "Question 43 refuses old plates that have the closer stacking" (document 02 (b)): two points 3 rows apart, both in margin column 0, where
+-- their outer labels touch; P9 with 0, 1, 0. A column greater than the rule's is refused too: rows 10, 9, 5 with 0, 1, 2.
 pub not-the-rules : (plateNo (touching ++ 0 ∷ 2 ∷ 0 ∷ 0 ∷ 1 ∷ 0 ∷ []) ≡ 43)
     × (plateNo (stacked 6 ++ 0 ∷ 3 ∷ 0 ∷ 0 ∷ 1 ∷ 1 ∷ 2 ∷ 0 ∷ []) ≡ 43) × (plateNo (stacked 5 ++ 0 ∷ 3 ∷ 0 ∷ 0 ∷ 1 ∷ 1 ∷ 2 ∷ 2 ∷ []) ≡ 43)
 unfolding twoBytes every unlikeEarlier pointNo pointsNo questionsNo plateSheetNo among before insert outsideBelow outside nextMargin

@@ -1,5 +1,5 @@
 -- The definition that must be believed: what is printed.
 pub mod PrintedText
--- Theorems: how much of an input decides its text; the text where one choice is best, and of P1.
+-- Theorems: how much of an input decides its text; the text where one choice is best, of P1 and of P9.
 pub mod PrintedStart
 pub mod PrintedCases

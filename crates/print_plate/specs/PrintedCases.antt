@@ -1,4 +1,5 @@
--- Where one choice is best, the printed text is its listing; so for P1 and P9 it is what the documents say. Assumes nothing.
+-- Where one choice is best, the printed text is its listing; so P1's is what document 01 says, and P9's has the margin columns of document
+-- 02 (b). Assumes nothing.
 use mathlib.Core.Path.{_≡_, ap, _∙_}
 use mathlib.Core.List.{List}
 use Prim.Native.Nat.{ℕ, _≤_}
@@ -53,7 +54,7 @@ five-printed text p =
     let c = all-right .1 .0 in
     only-printed sheetOfFive _ (c .accepted) (c .expected) text p ∙ ap listingOf (c .plate) ∙ all-listed .1 .0
 
--- P9, which has three margin columns.
+-- P9: "0, 1, 2", so three margin columns are used.
 pub p9-printed : (text : List ℕ) → PrintedText (stacked 6) text → text ≡ ascii "plate 3 0 3\n1 out 0\n2 out 1\n3 out 2\n"
 p9-printed text p =
     let c = all-right .1 .1 .0 in
