@@ -9,9 +9,10 @@ use native.Mathlib.Omega.{arith}
 use Rattle.labeling.specs.Points.{Points, Choice, DistinctRows}
 use Rattle.labeling.specs.Marks.{Valid}
 use Rattle.labeling.specs.Conflicts.{validB}
-use Rattle.labeling.specs.Decide.{decide, same}
+use Rattle.labeling.specs.Decide.{decide, same, Decides, dec-lt, dec-map}
 use Rattle.labeling.specs.Pixels.{dec-valid, nothing-inside}
-use Rattle.labeling.specs.Best.{weight, count, oneEach, Best, Agree, put, bestFrom, best, bestCount, bestChoiceFrom, bestChoice}
+use Rattle.labeling.specs.Best.{weight, count, oneEach, Best, Agree, put, bestFrom, best, Feasible, feasibleB, bestCount}
+use Rattle.labeling.specs.Best.{bestChoiceFrom, bestChoice}
 use Rattle.labeling.specs.Agree.{valid-agree, weight-agree}
 
 pub put-at : (S : Choice) (k : ℕ) (b : Bool) → put S k b k ≡ b
@@ -118,9 +119,19 @@ best-unique P v t pos r f =
     let z : weight P v (s .choice) < t = f (s .choice) (s .valid) in
     omega arith
 
--- with distinct rows there is a valid choice, so the best is not 0
-pub some-best : (P : Points) (v : ℕ → ℕ) → 1 ≤ P .w → DistinctRows P → 1 ≤ best P v
-some-best P v pos d = let u = best-most P v (λ i. false) pos (nothing-inside P d) in omega arith
+-- THE BEST IS NOT 0 EXACTLY IF SOME CHOICE IS VALID
+pub feasible-best : (P : Points) (v : ℕ → ℕ) → 1 ≤ P .w → Feasible P → 1 ≤ best P v
+feasible-best P v pos f = omega (arith, best-most P v (f .0) pos (f .1))
+
+pub best-feasible : (P : Points) (v : ℕ → ℕ) → 1 ≤ P .w → 1 ≤ best P v → Feasible P
+best-feasible P v pos l = let r = best-reached P v pos l in (r .choice, r .valid)
+
+pub dec-feasible : (P : Points) → 1 ≤ P .w → Decides (feasibleB P) (Feasible P)
+dec-feasible P pos = dec-map (best-feasible P oneEach pos) (feasible-best P oneEach pos) (dec-lt 0 (best P oneEach))
+
+-- so it is with distinct rows
+pub distinct-feasible : (P : Points) → DistinctRows P → Feasible P
+distinct-feasible P d = (λ i. false, nothing-inside P d)
 
 -- the count of a best choice is the best count
 pub best-counts : (P : Points) (S : Choice) → 1 ≤ P .w → Best P oneEach S → count P S ≡ bestCount P
@@ -135,8 +146,8 @@ best-count-most P R pos ok = below (best P oneEach) (best-most P oneEach R pos o
     below : (t : ℕ) → weight P oneEach R < t → weight P oneEach R ≤ pred t
     below t l = omega arith
 
--- THE BEST COUNT IS THE GREATEST: with distinct rows a valid choice has it
-pub best-count-reached : (P : Points) → 1 ≤ P .w → DistinctRows P → (S : Choice) × Valid P S × (count P S ≡ bestCount P)
-best-count-reached P pos d =
-    let b = bestChoice-best P oneEach pos (some-best P oneEach pos d) in
+-- THE BEST COUNT IS THE GREATEST: where some choice is valid, a valid choice has it
+pub best-count-reached : (P : Points) → 1 ≤ P .w → Feasible P → (S : Choice) × Valid P S × (count P S ≡ bestCount P)
+best-count-reached P pos f =
+    let b = bestChoice-best P oneEach pos (feasible-best P oneEach pos f) in
     (bestChoice P oneEach, b .valid, best-counts P (bestChoice P oneEach) pos b)

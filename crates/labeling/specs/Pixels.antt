@@ -145,7 +145,15 @@ valid-iff-free P S pos = (valid-free P S pos, free-valid P S)
 pub dec-valid : (P : Points) (S : Choice) → 1 ≤ P .w → Decides (validB P S) (Valid P S)
 dec-valid P S pos = record { is = λ e. free-valid P S (dec-free P S .is e); of = λ v. dec-free P S .of (valid-free P S pos v) }
 
--- (iii) "Rows are distinct, so the choice with nothing inside is always valid."
+-- (iii) "Two leaders in one row share pixels, so at most one point of a row can be outside" (document 02 (c)).
+pub one-outside-a-row : (P : Points) (S : Choice) (i j : ℕ) → Valid P S → i < P .n → j < P .n → S i ≡ false → S j ≡ false
+    → P .row i ≡ P .row j → i ≡ j
+one-outside-a-row P S i j v l m a b e =
+    let p = atColumn 0 (P .row i) in
+    same i j (λ q. q)
+    (λ ne. absurd (v .apart p i j l m ne (outside-of P S i p a (inl (omega arith))) (outside-of P S j p b (inl (omega arith)))))
+
+-- (iv) Where rows are distinct, the choice with nothing inside is valid.
 pub nothing-inside : (P : Points) → DistinctRows P → Valid P (λ i. false)
 unfolding Conflict
 nothing-inside P d = free-valid P (λ i. false) (record { apart = λ i j l m ne c. ne (d .apart i j l m c); within = λ i l t. absurd (not-both t refl) })

@@ -20,11 +20,11 @@ pub record Points : Type 0 where
 abbrev pub Choice : Type 0
 Choice = ℕ → Bool
 
--- No two points share a pixel.
+-- No two points stand on one pixel.
 pub record Distinct (P : Points) : Type 0 where
   pub apart : (i j : ℕ) → i < P .n → j < P .n → P .row i ≡ P .row j → P .column i ≡ P .column j → i ≡ j
 
--- "Rows are distinct."
+-- No two points share a row. A sheet needn't have this: "Points may now share a row if their columns differ" (document 02 (c)).
 pub record DistinctRows (P : Points) : Type 0 where
   pub apart : (i j : ℕ) → i < P .n → j < P .n → P .row i ≡ P .row j → i ≡ j
 
