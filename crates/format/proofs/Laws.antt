@@ -1,8 +1,8 @@
 -- Facts about the tests of a sheet, for the proofs of this crate. Assumes nothing.
-use mathlib.Core.Path.{_≡_, refl, _∙_}
+use mathlib.Core.Path.{_≡_, refl, sym, ap, _∙_}
 use mathlib.Core.Bool.{Bool, true, false, not}
 use mathlib.Core.List.{List}
-use Prim.Native.Nat.{ℕ, zero, suc, _+_, _<_}
+use Prim.Native.Nat.{ℕ, zero, suc, _+_, _≤_, _<_}
 use lib.Dec.{eqb, leb}
 use borrow.Author.Tests.{eq-eqb, ne-eqb}
 use native.Mathlib.Omega.{arith}
@@ -10,18 +10,23 @@ use native.Mathlib.Numerals.{add-one}
 use Rattle.labeling.specs.Points.{Points, nextMargin}
 use Rattle.labeling.specs.Conflicts.{every}
 use Rattle.labeling.specs.Decide.{not-both, decide, same}
-use Rattle.labeling.specs.Tests.{every-is}
+use Rattle.labeling.specs.Tests.{every-of, every-is}
 use Rattle.format.specs.Answers.{outcomeOf}
 use Rattle.format.specs.Sheet.{unlikeEarlier, pointNo, pointsNo}
 
--- one earlier position with the same number: not unlike every earlier one
-pub not-unlike : (f : ℕ → ℕ) (i j : ℕ) → j < i → f j ≡ f i → unlikeEarlier f i ≡ false
+-- one earlier position is like i: it is not unlike every earlier one
+pub not-unlike : (like : ℕ → ℕ → Bool) (i j : ℕ) → j < i → like j i ≡ true → false ≡ unlikeEarlier like i
 unfolding unlikeEarlier
-not-unlike f i j l e =
-    decide (every (λ j. not (eqb (f j) (f i))) i)
-    (λ t. let z : not (eqb (f j) (f i)) ≡ true = every-is (λ j. not (eqb (f j) (f i))) i t j l in
-    let y : not true ≡ true = rw (eq-eqb (f j) (f i) e) at z in absurd (not-both y refl))
-    (λ t. t)
+not-unlike like i j l e =
+    decide (every (λ j. not (like j i)) i)
+    (λ t. let z : not (like j i) ≡ true = every-is (λ j. not (like j i)) i t j l in
+    let y : not true ≡ true = rw e at z in absurd (not-both y refl))
+    (λ t. sym t)
+
+-- none is like i
+pub unlike : (like : ℕ → ℕ → Bool) (i m : ℕ) → i ≤ m → ((j : ℕ) → j < m → like j i ≡ false) → true ≡ unlikeEarlier like i
+unfolding unlikeEarlier
+unlike like i m l f = sym (every-of (λ j. not (like j i)) i (λ j k. ap not (f j (omega arith))))
 
 -- POINT BY POINT
 

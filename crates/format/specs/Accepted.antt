@@ -1,4 +1,4 @@
--- What an accepted sheet has: the questions 11 to 20 are all answered yes exactly if the sheet keeps document 01's rules. The crates
+-- What an accepted sheet has: the questions 11 to 20 are all answered yes exactly if the sheet keeps the documents' rules. The crates
 -- above rely on these facts. Assumes nothing.
 use mathlib.Core.Path.{_≡_, refl, sym}
 use mathlib.Core.Bool.{Bool, true, not}
@@ -8,11 +8,12 @@ use lib.Dec.{ltb, eqb}
 use lib.ListN.{length}
 use borrow.Author.Tests.{eqb-true, eqb-false, eq-eqb}
 use native.Mathlib.Omega.{arith}
-use Rattle.labeling.specs.Points.{DistinctRows}
+use Rattle.labeling.specs.Points.{Distinct}
 use Rattle.labeling.specs.Decide.{decide, same, Decides, dec-lt, dec-le, dec-eq, dec-and, dec-not}
-use Rattle.labeling.specs.Tests.{every-of, every-is}
+use Rattle.labeling.specs.Tests.{dec-every}
 use Rattle.format.specs.Sheet.{frameCount, mapWidth, mapHeight, labelWidth, labelHeight, pointCount, callNumber, column}
-use Rattle.format.specs.Sheet.{row, pointsOf, ask, upTo, unlikeEarlier, pointNo, pointsNo, questionsNo, sheetNo, plateSheetNo}
+use Rattle.format.specs.Sheet.{row, pointsOf, ask, upTo, sameCall, samePixel, unlikeEarlier, pointNo, pointsNo, questionsNo}
+use Rattle.format.specs.Sheet.{sheetNo, plateSheetNo}
 
 -- A number is 1 to most.
 abbrev pub UpTo : ℕ → ℕ → Type 0
@@ -29,7 +30,7 @@ pub record Proper (s : List ℕ) : Type 0 where
   pub call-number : (i : ℕ) → i < pointCount s → UpTo 9999 (callNumber s i)
   pub on-map : (i : ℕ) → i < pointCount s → (column s i < mapWidth s) × (row s i < mapHeight s)
   pub calls : (i j : ℕ) → i < pointCount s → j < pointCount s → callNumber s i ≡ callNumber s j → i ≡ j
-  pub rows : DistinctRows (pointsOf s)
+  pub pixels : Distinct (pointsOf s)
 
 -- An accepted sheet: "A sheet has 10 + 6n bytes", and the rules.
 pub record Accepted (s : List ℕ) : Type 0 where
@@ -54,40 +55,46 @@ none-left = record { is = λ e. tt; of = λ t. refl }
 pub dec-upTo : (most x : ℕ) → Decides (upTo most x) (UpTo most x)
 dec-upTo most x = dec-and (dec-le _ _) (dec-le _ _)
 
--- What f gives to i it gives to no position below i.
-abbrev pub Unlike : (ℕ → ℕ) → ℕ → Type 0
-Unlike f i = (j : ℕ) → j < i → f j ≡ f i → ⊥
+-- Positions j and i have one call number; stand on one pixel.
+abbrev pub SameCall : List ℕ → ℕ → ℕ → Type 0
+SameCall s j i = callNumber s j ≡ callNumber s i
 
-pub dec-unlike : (f : ℕ → ℕ) (i : ℕ) → Decides (unlikeEarlier f i) (Unlike f i)
+abbrev pub SamePixel : List ℕ → ℕ → ℕ → Type 0
+SamePixel s j i = (row s j ≡ row s i) × (column s j ≡ column s i)
+
+-- No position below i is like i.
+abbrev pub Unlike : (ℕ → ℕ → Type 0) → ℕ → Type 0
+Unlike Like i = (j : ℕ) → j < i → Like j i → ⊥
+
+pub dec-unlike : (like : ℕ → ℕ → Bool) (Like : ℕ → ℕ → Type 0) (i : ℕ)
+    → ((j : ℕ) → Decides (like j i) (Like j i)) → Decides (unlikeEarlier like i) (Unlike Like i)
 unfolding unlikeEarlier
-dec-unlike f i = record {
-  is = λ e j l. dec-not (dec-eq (f j) (f i)) .is (every-is (λ j. not (eqb (f j) (f i))) i e j l);
-  of = λ u. every-of (λ j. not (eqb (f j) (f i))) i (λ j l. dec-not (dec-eq (f j) (f i)) .of (u j l));
-}
+dec-unlike like Like i d = dec-every (λ j. not (like j i)) (λ j. Like j i → ⊥) i (λ j. dec-not (d j))
 
--- no two positions below m have the same, if each has one unlike the earlier ones
-all-unlike : (f : ℕ → ℕ) (m : ℕ) → ((i : ℕ) → i < m → Unlike f i) → (i j : ℕ) → i < m → j < m → f i ≡ f j → i ≡ j
-all-unlike f m u i j l k e =
+-- no two positions below m are alike, if each is unlike the earlier ones
+all-unlike : (Like : ℕ → ℕ → Type 0) (m : ℕ) → ((i j : ℕ) → Like i j → Like j i)
+    → ((i : ℕ) → i < m → Unlike Like i) → (i j : ℕ) → i < m → j < m → Like i j → i ≡ j
+all-unlike Like m back u i j l k e =
     decide (ltb i j)
     (λ t. absurd (u j k i (dec-lt i j .is t) e))
-    (λ t. same i j (λ q. q) (λ ne. let n : j ≤ i = borrow.Author.Tests.ltb-false i j t in absurd (u i l j (omega arith) (sym e))))
+    (λ t. same i j (λ q. q) (λ ne. let n : j ≤ i = borrow.Author.Tests.ltb-false i j t in absurd (u i l j (omega arith) (back i j e))))
 
-unlike-all : (f : ℕ → ℕ) (m : ℕ) → ((i j : ℕ) → i < m → j < m → f i ≡ f j → i ≡ j) → (i : ℕ) → i < m → Unlike f i
-unlike-all f m d i l j k e = let q : j ≡ i = d j i (omega arith) l e in omega arith
+unlike-all : (Like : ℕ → ℕ → Type 0) (m : ℕ) → ((i j : ℕ) → i < m → j < m → Like i j → i ≡ j) → (i : ℕ) → i < m → Unlike Like i
+unlike-all Like m d i l j k e = let q : j ≡ i = d j i (omega arith) l e in omega arith
 
 -- The rules of one point.
 PointProper : List ℕ → ℕ → Type 0
 PointProper s i =
     UpTo 9999 (callNumber s i)
-    × (((column s i < mapWidth s) × (row s i < mapHeight s)) × (Unlike (callNumber s) i × (Unlike (row s) i × Unit {0})))
+    × (((column s i < mapWidth s) × (row s i < mapHeight s)) × (Unlike (SameCall s) i × (Unlike (SamePixel s) i × Unit {0})))
 
 none-point : (s : List ℕ) (i : ℕ) → NoneOf (pointNo s i) (PointProper s i)
 unfolding pointNo PointProper
 none-point s i =
     none-ask 17 (omega arith) (dec-upTo _ _)
     (none-ask 18 (omega arith) (dec-and (dec-lt _ _) (dec-lt _ _))
-    (none-ask 19 (omega arith) (dec-unlike (callNumber s) i)
-    (none-ask 20 (omega arith) (dec-unlike (row s) i) none-left)))
+    (none-ask 19 (omega arith) (dec-unlike (sameCall s) (SameCall s) i (λ j. dec-eq _ _))
+    (none-ask 20 (omega arith) (dec-unlike (samePixel s) (SamePixel s) i (λ j. dec-and (dec-eq _ _) (dec-eq _ _))) none-left)))
 
 -- the first no of the positions below m is 0 exactly if each has none
 none-points : (s : List ℕ) (m : ℕ) → NoneOf (pointsNo s m) ((i : ℕ) → i < m → PointProper s i)
@@ -136,8 +143,11 @@ asked-proper s Fits q =
       few = q .1 .1 .1 .1 .0;
       call-number = λ i l. points i l .0;
       on-map = λ i l. points i l .1 .0;
-      calls = all-unlike (callNumber s) (pointCount s) (λ i l. points i l .1 .1 .0);
-      rows = record { apart = all-unlike (row s) (pointCount s) (λ i l. points i l .1 .1 .1 .0) };
+      calls = all-unlike (SameCall s) (pointCount s) (λ i j. sym) (λ i l. points i l .1 .1 .0);
+      pixels = record {
+        apart = λ i j l m r c.
+            all-unlike (SamePixel s) (pointCount s) (λ i j e. (sym (e .0), sym (e .1))) (λ i l. points i l .1 .1 .1 .0) i j l m (r, c);
+      };
     }
 
 asked-fits : (s : List ℕ) (Fits : Type 0) → Asked s Fits → Fits
@@ -162,7 +172,10 @@ proper-asked s Fits p long f = (
               p .call-number i l,
               (
                 p .on-map i l,
-                (unlike-all (callNumber s) (pointCount s) (p .calls) i l, (unlike-all (row s) (pointCount s) (p .rows .apart) i l, tt)),
+                (
+                  unlike-all (SameCall s) (pointCount s) (p .calls) i l,
+                  (unlike-all (SamePixel s) (pointCount s) (λ i j l m e. p .pixels .apart i j l m (e .0) (e .1)) i l, tt),
+                ),
               ),
             ),
           ),
@@ -172,7 +185,7 @@ proper-asked s Fits p long f = (
   ),
 )
 
--- THE THEOREM: a sheet has no no exactly if it is accepted in the sense of document 01's rules.
+-- THE THEOREM: a sheet has no no exactly if it is accepted in the sense of the documents' rules.
 pub none-sheet : (s : List ℕ) → NoneOf (sheetNo s) (Accepted s)
 unfolding sheetNo
 none-sheet s = record {

@@ -2,7 +2,7 @@
 -- Assumes nothing.
 use mathlib.Core.Path.{_≡_, refl, sym, _∙_}
 use mathlib.Core.Bool.{Bool, true, false, not, _&&_}
-use Prim.Native.Nat.{ℕ}
+use Prim.Native.Nat.{ℕ, _≤_}
 use lib.Dec.{eqb}
 use borrow.Author.Tests.{eq-eqb, ne-eqb, eqb-true, eqb-false, not-true, not-false}
 use Rattle.labeling.specs.Decide.{decide}
@@ -83,11 +83,22 @@ stops-list g first later x q ne e = then-first first later x ne e ∙ sym q ∙ 
 
 -- NONE IS ANSWERED NO
 
--- neither of two lists of questions has a no
-pub none-then : {first later : ℕ} {A B : Type 0} → NoneOf first A → NoneOf later B → NoneOf (thenNo first later) (A × B)
-none-then {first} {later} a b = record {
+-- neither of two lists of questions has a no; the later is asked where A holds
+pub none-after : {first later : ℕ} {A B : Type 0} → NoneOf first A → (A → NoneOf later B) → NoneOf (thenNo first later) (A × B)
+none-after {first} {later} a b = record {
   is = λ z. decide (eqb first 0)
-      (λ t. (a .is (eqb-true first 0 t), b .is (rw t at z)))
+      (λ t. let x = a .is (eqb-true first 0 t) in (x, b x .is (rw t at z)))
       (λ t. let e : first ≡ 0 = rw t at z in absurd (eqb-false first 0 t e));
-  of = λ y. rw (eq-eqb first 0 (a .of (y .0))) (b .of (y .1));
+  of = λ y. rw (eq-eqb first 0 (a .of (y .0))) (b (y .0) .of (y .1));
 }
+
+pub none-then : {first later : ℕ} {A B : Type 0} → NoneOf first A → NoneOf later B → NoneOf (thenNo first later) (A × B)
+none-then a b = none-after a (λ x. b)
+
+-- NO NUMBER IS ABOVE m
+
+pub ask-most : (b : Bool) (m k after : ℕ) → k ≤ m → after ≤ m → ask b k after ≤ m
+ask-most b m k after x y = decide b (λ e. rw e y) (λ e. rw e x)
+
+pub then-most : (m first later : ℕ) → first ≤ m → later ≤ m → thenNo first later ≤ m
+then-most m first later x y = decide (eqb first 0) (λ e. rw e y) (λ e. rw e x)

@@ -12,9 +12,10 @@ pub mod Bytes
 pub mod Written
 pub mod Padded
 pub mod Stretches
--- THEOREMS: what an accepted sheet has; the first bytes that decide; how long a plate is, and that it is bytes; an ascending list is the
--- list of one choice.
+-- THEOREMS: what an accepted sheet has; 61, and sheets with distinct rows; the first bytes that decide; how long a plate is, and that it
+-- is bytes; an ascending list is the list of one choice.
 pub mod Accepted
+pub mod SharedRows
 pub mod Start
 pub mod PlateLength
 pub mod PlateBytes

@@ -1,5 +1,5 @@
 -- A sheet's fields over its bytes, and the first no of its questions (document 01, "Sheet and plate as bytes" and "Questions in their
--- order"). A field past the end of the bytes reads 0, so each is defined on any bytes. Assumes nothing.
+-- order", and document 02 (c)). A field past the end of the bytes reads 0, so each is defined on any bytes. Assumes nothing.
 use mathlib.Core.Bool.{Bool, cond, not, _&&_}
 use mathlib.Core.List.{List}
 use Prim.Native.Nat.{ℕ, zero, suc, _+_, _*_}
@@ -77,18 +77,27 @@ bothUpTo most x y = upTo most x && upTo most y
 abbrev pub onMap : List ℕ → ℕ → ℕ → Bool
 onMap s c r = ltb c (mapWidth s) && ltb r (mapHeight s)
 
--- "unlike every earlier one": what f gives to position i it gives to no position below i.
-unfoldable pub unlikeEarlier : (ℕ → ℕ) → ℕ → Bool
-unlikeEarlier f i = every (λ j. not (eqb (f j) (f i))) i
+-- Positions j and i have one call number.
+abbrev pub sameCall : List ℕ → ℕ → ℕ → Bool
+sameCall s j i = eqb (callNumber s j) (callNumber s i)
 
--- "is the call number allowed? 17. Are column and row on the map? 18. Is the call number unlike every earlier one? 19. The row unlike
--- every earlier one? 20": of position i, 0 if there is no no.
+-- Positions j and i stand on one pixel.
+abbrev pub samePixel : List ℕ → ℕ → ℕ → Bool
+samePixel s j i = eqb (row s j) (row s i) && eqb (column s j) (column s i)
+
+-- "unlike every earlier one": no position below i is like i.
+unfoldable pub unlikeEarlier : (ℕ → ℕ → Bool) → ℕ → Bool
+unlikeEarlier like i = every (λ j. not (like j i)) i
+
+-- "is the call number allowed? 17. Are column and row on the map? 18. Is the call number unlike every earlier one? 19." And document 02
+-- (c): "Points may now share a row if their columns differ", so "20 is kept for two points on one pixel". Of position i, 0 if there is no
+-- no.
 unfoldable pub pointNo : List ℕ → ℕ → ℕ
 pointNo s i =
     ask (upTo 9999 (callNumber s i)) 17
     (ask (onMap s (column s i) (row s i)) 18
-    (ask (unlikeEarlier (callNumber s) i) 19
-    (ask (unlikeEarlier (row s) i) 20
+    (ask (unlikeEarlier (sameCall s) i) 19
+    (ask (unlikeEarlier (samePixel s) i) 20
     0)))
 
 -- "Point by point": the first no of the positions below m.

@@ -1,11 +1,13 @@
 // The bytes of sheets and plates.
 ghost use mathlib.Core.Path.{_≡_};
 ghost use Prim.Native.Nat.{_+_, _*_, _<_};
-ghost use lib.Dec.{ltb, leb};
+ghost use mathlib.Core.Bool.{_&&_};
+ghost use lib.Dec.{ltb, leb, eqb};
 ghost use lib.ListN.{getD};
 ghost use Rattle.format.specs.Sheet.{twoBytes, sheetLength, mapWidth, mapHeight, labelWidth, labelHeight, pointCount};
 ghost use Rattle.format.specs.Sheet.{callNumber, column as columnOf, row as rowOf, pointsOf};
-ghost use Rattle.format.specs.Sheet.{upTo, bothUpTo, onMap, unlikeEarlier, pointNo, pointsNo, questionsNo, sheetNo};
+ghost use Rattle.format.specs.Sheet.{upTo, bothUpTo, onMap, sameCall, samePixel, unlikeEarlier, pointNo, pointsNo};
+ghost use Rattle.format.specs.Sheet.{questionsNo, sheetNo};
 ghost use Rattle.labeling.specs.Points.{nextMargin};
 ghost use Rattle.labeling.specs.Marks.{labelOnMapB};
 ghost use Rattle.format.specs.Answers.{sheetOutcome, outcomeOf};
@@ -191,15 +193,40 @@ fn on_map(sheet: &[u8], point: SheetPoint) -> bool
     false
 }
 
-// The two-byte number at a place of the point (10: call number, 14: row) is unlike that of every earlier position.
-fn unlike_earlier(sheet: &[u8], place: usize, position: u8) -> bool
-    requires { ⌜ place < 16 ⌝ }
-    ensures { λ r. ⌜ r ≡ unlikeEarlier (λ j. twoBytes (now (sheet .entry)) (place + 6 * j)) position ⌝ }
+// The call number of a position is unlike every earlier one.
+fn own_call_number(sheet: &[u8], position: u8) -> bool
+    ensures { λ r. ⌜ r ≡ unlikeEarlier (sameCall (now (sheet .entry))) position ⌝ }
 {
-    let own = two_bytes(sheet, place + 6 * position as usize);
+    let own = call_number(sheet, position);
     let mut earlier: u8 = 0;
     while earlier < position {
-        if two_bytes(sheet, place + 6 * earlier as usize) == own {
+        if call_number(sheet, earlier) == own {
+            return false;
+        }
+        earlier += 1;
+    }
+    true
+}
+
+// A position stands on the pixel in column x and row y.
+fn stands_on(sheet: &[u8], position: u8, x: u16, y: u16) -> bool
+    ensures { λ r. ⌜ r ≡ (eqb (rowOf (now (sheet .entry)) position) y && eqb (columnOf (now (sheet .entry)) position) x) ⌝ }
+{
+    if row(sheet, position) == y {
+        return column(sheet, position) == x;
+    }
+    false
+}
+
+// No earlier position stands on the pixel of a position.
+fn own_pixel(sheet: &[u8], position: u8) -> bool
+    ensures { λ r. ⌜ r ≡ unlikeEarlier (samePixel (now (sheet .entry))) position ⌝ }
+{
+    let x = column(sheet, position);
+    let y = row(sheet, position);
+    let mut earlier: u8 = 0;
+    while earlier < position {
+        if stands_on(sheet, earlier, x, y) {
             return false;
         }
         earlier += 1;
@@ -218,10 +245,10 @@ fn point_no(sheet: &[u8], position: u8, point: SheetPoint) -> u8
     if !on_map(sheet, point) {
         return 18;
     }
-    if !unlike_earlier(sheet, 10, position) {
+    if !own_call_number(sheet, position) {
         return 19;
     }
-    if !unlike_earlier(sheet, 14, position) {
+    if !own_pixel(sheet, position) {
         return 20;
     }
     0

@@ -41,27 +41,27 @@ abbrev past-18 : tie.Else2 → Rung
 unfolding pointNo
 past-18 c = past-answer (past-17 (c .before .before)) (on-the-map (c .before)) 18 _ refl (c .if2 .left)
 
-unlike-earlier-requires : tie.Need-unlike-earlier-requires
-unlike-earlier-requires c κs = search needs
+own-call-number-requires : tie.Need-own-call-number-requires
+own-call-number-requires c κs = search needs
 
 returns-3 : tie.Need-returns-3
 unfolding pointNo
-returns-3 c = stops-answer (past-18 (c .before .before)) (answers (c .before .unlike-earlier .ensures)) 19 _ refl (c .if3 .taken)
+returns-3 c = stops-answer (past-18 (c .before .before)) (answers (c .before .own-call-number .ensures)) 19 _ refl (c .if3 .taken)
 
 abbrev past-19 : tie.Else3 → Rung
 unfolding pointNo
-past-19 c = past-answer (past-18 (c .before .before)) (answers (c .before .unlike-earlier .ensures)) 19 _ refl (c .if3 .left)
+past-19 c = past-answer (past-18 (c .before .before)) (answers (c .before .own-call-number .ensures)) 19 _ refl (c .if3 .left)
 
-unlike-earlier-requires-2 : tie.Need-unlike-earlier-requires-2
-unlike-earlier-requires-2 c κs = search needs
+own-pixel-requires : tie.Need-own-pixel-requires
+own-pixel-requires c κs = search needs
 
 returns-4 : tie.Need-returns-4
 unfolding pointNo
-returns-4 c = stops-answer (past-19 (c .before .before)) (answers (c .before .unlike-earlier2 .ensures)) 20 _ refl (c .if4 .taken)
+returns-4 c = stops-answer (past-19 (c .before .before)) (answers (c .before .own-pixel .ensures)) 20 _ refl (c .if4 .taken)
 
 abbrev past-20 : tie.Else4 → Rung
 unfolding pointNo
-past-20 c = past-answer (past-19 (c .before .before)) (answers (c .before .unlike-earlier2 .ensures)) 20 _ refl (c .if4 .left)
+past-20 c = past-answer (past-19 (c .before .before)) (answers (c .before .own-pixel .ensures)) 20 _ refl (c .if4 .left)
 
 returns-5 : tie.Need-returns-5
 unfolding pointNo
@@ -75,8 +75,8 @@ point-no-spec =
     returns
     on-map-requires
     returns-2
-    unlike-earlier-requires
+    own-call-number-requires
     returns-3
-    unlike-earlier-requires-2
+    own-pixel-requires
     returns-4
     returns-5)

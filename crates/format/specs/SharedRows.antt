@@ -1,0 +1,128 @@
+-- What document 02 (c) says of numbers: 61 comes exactly if no choice of the sheet is valid, the sheet's own questions never have it, and
+-- "Sheets with distinct rows get the answers they had". Assumes nothing.
+use mathlib.Core.Path.{_≡_, sym, _∙_}
+use mathlib.Core.Bool.{Bool}
+use mathlib.Core.Logic.{_↔_}
+use mathlib.Core.List.{List}
+use Prim.Native.Nat.{ℕ, zero, suc, _+_, _≤_, _<_}
+use lib.Dec.{leb, eqb}
+use lib.ListN.{length}
+use borrow.Author.Tests.{eq-eqb, ne-eqb}
+use native.Mathlib.Omega.{arith}
+use Rattle.labeling.specs.Points.{DistinctRows}
+use Rattle.labeling.specs.Best.{Feasible, feasibleB}
+use Rattle.labeling.specs.Greatest.{dec-feasible, distinct-feasible}
+use Rattle.labeling.specs.Decide.{decide, same, dec-and, dec-eq}
+use Rattle.format.specs.Sizes.{workspaceCells}
+use Rattle.format.specs.Sheet.{frameCount, mapWidth, mapHeight, labelWidth, labelHeight, pointCount, callNumber, column, row}
+use Rattle.format.specs.Sheet.{pointsOf, thenNo, upTo, bothUpTo, onMap, sameCall, samePixel, unlikeEarlier, pointNo, pointsNo}
+use Rattle.format.specs.Sheet.{questionsNo, sheetNo, plateSheetNo}
+use Rattle.format.specs.Accepted.{Accepted, SamePixel, none-sheet, dec-unlike}
+use Rattle.format.specs.Asking.{ask-most, then-most, none-then}
+use Rattle.format.specs.MakingQuestions.{workspaceNo, askedNo, outputFits, choiceNo, choosingNo, makingNo, loadNo}
+use Rattle.format.specs.MakingQuestions.{none-workspace, none-asked, none-choice}
+
+-- "THE SHEET'S QUESTIONS" have the numbers 11 to 20, so check_sheet never answers 61
+
+point-most : (s : List ℕ) (i : ℕ) → pointNo s i ≤ 20
+unfolding pointNo
+point-most s i =
+    ask-most (upTo 9999 (callNumber s i)) 20 17 _ (omega arith)
+    (ask-most (onMap s (column s i) (row s i)) 20 18 _ (omega arith)
+    (ask-most (unlikeEarlier (sameCall s) i) 20 19 _ (omega arith)
+    (ask-most (unlikeEarlier (samePixel s) i) 20 20 0 (omega arith) (omega arith))))
+
+points-most : (s : List ℕ) (m : ℕ) → pointsNo s m ≤ 20
+unfolding pointsNo
+points-most s zero = omega arith
+points-most s (suc m) = then-most 20 (pointsNo s m) (pointNo s m) (points-most s m) (point-most s m)
+
+questions-most : (s : List ℕ) (fits : Bool) → questionsNo s fits ≤ 20
+unfolding questionsNo
+questions-most s fits =
+    ask-most (leb 10 (length s)) 20 11 _ (omega arith)
+    (ask-most (eqb (frameCount s) 1) 20 12 _ (omega arith)
+    (ask-most (bothUpTo 4096 (mapWidth s) (mapHeight s)) 20 13 _ (omega arith)
+    (ask-most (bothUpTo 256 (labelWidth s) (labelHeight s)) 20 14 _ (omega arith)
+    (ask-most (leb (pointCount s) 32) 20 15 _ (omega arith)
+    (ask-most fits 20 16 _ (omega arith) (points-most s (pointCount s)))))))
+
+pub sheet-most : (s : List ℕ) → sheetNo s ≤ 20
+unfolding sheetNo
+sheet-most s = questions-most s _
+
+pub plate-sheet-most : (p : List ℕ) → plateSheetNo p ≤ 20
+unfolding plateSheetNo
+plate-sheet-most p = questions-most p _
+
+workspace-most : (cells : ℕ) → workspaceNo cells ≤ 22
+workspace-most cells = ask-most (leb workspaceCells cells) 22 22 0 (omega arith) (omega arith)
+
+pub asked-most : (s : List ℕ) (fits : Bool) (cells : ℕ) → askedNo s fits cells ≤ 22
+unfolding askedNo
+asked-most s fits cells =
+    then-most 22 (sheetNo s) _ (omega (arith, sheet-most s)) (ask-most fits 22 21 _ (omega arith) (workspace-most cells))
+
+load-asked-most : (s : List ℕ) (cells : ℕ) → thenNo (sheetNo s) (workspaceNo cells) ≤ 22
+load-asked-most s cells = then-most 22 (sheetNo s) _ (omega (arith, sheet-most s)) (workspace-most cells)
+
+-- 61 EXACTLY IF NO CHOICE IS VALID
+
+-- of questions with numbers below 61, which accept the sheet s, and then 61
+module _ (s : List ℕ) (before : ℕ) (low : before ≤ 22) (sheet : before ≡ 0 → Accepted s) where
+  sixty-one : (thenNo before (choiceNo s) ≡ 61) ↔ ((before ≡ 0) × (Feasible (pointsOf s) → ⊥))
+  sixty-one = (
+    λ e. same before 0
+        (λ z. (z, λ f. let y : thenNo before (choiceNo s) ≡ 0 = rw (eq-eqb before 0 z) (none-choice s (sheet z) .of (f, tt)) in omega arith))
+        (λ ne. let y : thenNo before (choiceNo s) ≡ before = rw (ne-eqb before 0 ne) in absurd (omega (arith, low))),
+    λ a. decide (feasibleB (pointsOf s))
+        (λ t. absurd (a .1 (dec-feasible (pointsOf s) (sheet (a .0) .proper .label-width .0) .is t)))
+        (λ t. rw (eq-eqb before 0 (a .0), t)),
+  )
+
+pub making-61 : (s : List ℕ) (room cells : ℕ)
+    → (makingNo s room cells ≡ 61) ↔ ((askedNo s (outputFits s room) cells ≡ 0) × (Feasible (pointsOf s) → ⊥))
+unfolding makingNo choosingNo
+making-61 s room cells = sixty-one s (askedNo s (outputFits s room) cells) (asked-most s _ cells) (λ z. none-asked s _ cells .is z .0)
+
+pub load-61 : (s : List ℕ) (cells : ℕ)
+    → (loadNo s cells ≡ 61) ↔ ((thenNo (sheetNo s) (workspaceNo cells) ≡ 0) × (Feasible (pointsOf s) → ⊥))
+unfolding loadNo
+load-61 s cells =
+    sixty-one s (thenNo (sheetNo s) (workspaceNo cells)) (load-asked-most s cells)
+    (λ z. none-then (none-sheet s) (none-workspace cells) .is z .0)
+
+-- "SHEETS WITH DISTINCT ROWS GET THE ANSWERS THEY HAD"
+
+-- Positions j and i have one row.
+abbrev pub sameRow : List ℕ → ℕ → ℕ → Bool
+sameRow s j i = eqb (row s j) (row s i)
+
+-- Question 20 is answered as document 01's, "The row unlike every earlier one?"; and 61 never comes: making and loading have the numbers
+-- of document 01's questions.
+pub record AnswersKept (s : List ℕ) : Type 0 where
+  pub question-20 : (i : ℕ) → i < pointCount s → unlikeEarlier (samePixel s) i ≡ unlikeEarlier (sameRow s) i
+  pub making : (room cells : ℕ) → makingNo s room cells ≡ askedNo s (outputFits s room) cells
+  pub loading : (cells : ℕ) → loadNo s cells ≡ thenNo (sheetNo s) (workspaceNo cells)
+
+-- no question 61
+module _ (s : List ℕ) (d : DistinctRows (pointsOf s)) (before : ℕ) (sheet : before ≡ 0 → Accepted s) where
+  never-61 : thenNo before (choiceNo s) ≡ before
+  never-61 =
+      same before 0
+      (λ z. rw (eq-eqb before 0 z) (none-choice s (sheet z) .of (distinct-feasible (pointsOf s) d, tt) ∙ sym z))
+      (λ ne. rw (ne-eqb before 0 ne))
+
+pub distinct-rows-answers : (s : List ℕ) → DistinctRows (pointsOf s) → AnswersKept s
+unfolding makingNo choosingNo loadNo
+distinct-rows-answers s d = record {
+  question-20 = λ i l.
+      dec-unlike (samePixel s) (SamePixel s) i (λ j. dec-and (dec-eq _ _) (dec-eq _ _)) .of (λ j k e. alone j i k l (e .0))
+      ∙ sym (dec-unlike (sameRow s) (λ j i. row s j ≡ row s i) i (λ j. dec-eq _ _) .of (λ j k e. alone j i k l e));
+  making = λ room cells. never-61 s d (askedNo s (outputFits s room) cells) (λ z. none-asked s _ cells .is z .0);
+  loading = λ cells.
+      never-61 s d (thenNo (sheetNo s) (workspaceNo cells)) (λ z. none-then (none-sheet s) (none-workspace cells) .is z .0);
+}
+  where
+    alone : (j i : ℕ) → j < i → i < pointCount s → row s j ≡ row s i → ⊥
+    alone j i k l e = let q = d .apart j i (omega arith) l e in omega arith
