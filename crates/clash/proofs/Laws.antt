@@ -2,7 +2,7 @@
 use mathlib.Core.Path.{_≡_, refl, sym, ap, _∙_}
 use mathlib.Core.Bool.{Bool, true, false, not, _&&_}
 use Prim.Native.Nat.{ℕ, zero, suc, _+_, _≤_, _<_}
-use lib.Dec.{ltb, leb}
+use lib.Dec.{ltb, leb, eqb}
 use borrow.Author.Tests.{lt-ltb, le-ltb}
 use native.Mathlib.Omega.{arith}
 use native.Mathlib.Numerals.{add-one}
@@ -10,7 +10,7 @@ use Rattle.labeling.specs.Points.{Points, Choice}
 use Rattle.labeling.specs.Marks.{labelOnMapB}
 use Rattle.labeling.specs.Conflicts.{overlapB, hitsB}
 use Rattle.labeling.specs.Decide.{not-both, same}
-use Rattle.clash.specs.declared.ClashKind.the-variants.{Labels, LabelAndLeader, Overhang}
+use Rattle.clash.specs.declared.ClashKind.the-variants.{Labels, LabelAndLeader, Overhang, TwoLeaders}
 use Rattle.clash.specs.declared.Clash.{Clash}
 use Rattle.clash.specs.declared.Clash.the-variants.{None, Between}
 use Rattle.format.specs.Stretches.{stretchesOverlap}
@@ -63,9 +63,10 @@ pub pair-leader-first : (P : Points) (S : Choice) (i j : ℕ) (r : Clash)
 unfolding pairClash
 pair-leader-first P S i j r a b e = rw (a, b) e
 
-pub pair-leaders : (P : Points) (S : Choice) (i j : ℕ) → S i ≡ false → S j ≡ false → None ≡ pairClash P S i j
+pub pair-leaders : (P : Points) (S : Choice) (i j : ℕ) (r : Clash)
+    → S i ≡ false → S j ≡ false → r ≡ clashIf (eqb (P .row i) (P .row j)) i j TwoLeaders → r ≡ pairClash P S i j
 unfolding pairClash
-pair-leaders P S i j a b = rw (a, b)
+pair-leaders P S i j r a b e = rw (a, b) e
 
 -- THE FIRST CLASH, one by one
 

@@ -10,13 +10,13 @@ use native.Mathlib.Omega.{arith}
 use Rattle.labeling.specs.Points.{Points, Choice, DistinctRows}
 use Rattle.labeling.specs.Marks.{Shared, LabelOnMap, Valid, labelOnMapB}
 use Rattle.labeling.specs.Conflicts.{Conflict}
-use Rattle.labeling.specs.Decide.{not-both, decide, same, less, Decides, dec-not, dec-map}
+use Rattle.labeling.specs.Decide.{not-both, decide, same, less, Decides, dec-eq, dec-not, dec-map}
 use Rattle.labeling.specs.Tests.{dec-overlap, dec-hits, dec-label-on-map}
-use Rattle.labeling.specs.Pixels.{shared-conflict, conflict-shared}
+use Rattle.labeling.specs.Pixels.{outside-apart, shared-conflict, conflict-shared}
 use Rattle.format.specs.Sheet.{pointsOf}
 use Rattle.format.specs.Accepted.{Accepted}
 use Rattle.clash.specs.declared.ClashKind.{ClashKind}
-use Rattle.clash.specs.declared.ClashKind.the-variants.{Labels, LabelAndLeader, Overhang}
+use Rattle.clash.specs.declared.ClashKind.the-variants.{Labels, LabelAndLeader, Overhang, TwoLeaders}
 use Rattle.clash.specs.declared.Clash.{Clash}
 use Rattle.clash.specs.declared.Clash.the-variants.{None, Between}
 use Rattle.clash.specs.FirstClash.{isClash, orElse, clashIf, pairClash, ownClash, firstOf, orderedClash}
@@ -77,11 +77,13 @@ Overhangs P S i = (S i ≡ true) × (LabelOnMap P i → ⊥)
 abbrev pub Clashing : Points → Choice → ℕ → ℕ → Type 0
 Clashing P S i j = ((i ≡ j) × Overhangs P S i) ⊎ ((i ≡ j → ⊥) × Shared P S i j)
 
--- What a kind says of its two positions: "whether two labels met or a label met a leader"; an overhang "gets its own kind".
+-- What a kind says of its two positions: "whether two labels met or a label met a leader"; an overhang "gets its own kind"; and "two
+-- leaders" is a kind too (document 02 (a) and (c)).
 abbrev pub KindOf : ClashKind → Choice → ℕ → ℕ → Type 0
 KindOf Labels S i j = (i ≡ j → ⊥) × (S i ≡ true) × (S j ≡ true)
 KindOf LabelAndLeader S i j = ((S i ≡ true) × (S j ≡ false)) ⊎ ((S i ≡ false) × (S j ≡ true))
 KindOf Overhang S i j = i ≡ j
+KindOf TwoLeaders S i j = (i ≡ j → ⊥) × (S i ≡ false) × (S j ≡ false)
 
 -- THE CLASH THAT THE DOCUMENTS NAME: i and j clash; k is the one kind that they have; and no two positions before them clash, by the first
 -- position and then by the second.
@@ -98,15 +100,24 @@ kind-once Labels Labels S i j x y = refl
 kind-once Labels LabelAndLeader S i j x (inl y) = absurd (not-both (x .2) (y .1))
 kind-once Labels LabelAndLeader S i j x (inr y) = absurd (not-both (x .1) (y .0))
 kind-once Labels Overhang S i j x y = absurd (x .0 y)
+kind-once Labels TwoLeaders S i j x y = absurd (not-both (x .1) (y .1))
 kind-once LabelAndLeader Labels S i j (inl x) y = absurd (not-both (y .2) (x .1))
 kind-once LabelAndLeader Labels S i j (inr x) y = absurd (not-both (y .1) (x .0))
 kind-once LabelAndLeader LabelAndLeader S i j x y = refl
 kind-once LabelAndLeader Overhang S i j (inl x) y = absurd (not-both (x .0) (ap S y ∙ x .1))
 kind-once LabelAndLeader Overhang S i j (inr x) y = absurd (not-both (x .1) (ap S (sym y) ∙ x .0))
+kind-once LabelAndLeader TwoLeaders S i j (inl x) y = absurd (not-both (x .0) (y .1))
+kind-once LabelAndLeader TwoLeaders S i j (inr x) y = absurd (not-both (x .1) (y .2))
 kind-once Overhang Labels S i j x y = absurd (y .0 x)
 kind-once Overhang LabelAndLeader S i j x (inl y) = absurd (not-both (y .0) (ap S x ∙ y .1))
 kind-once Overhang LabelAndLeader S i j x (inr y) = absurd (not-both (y .1) (ap S (sym x) ∙ y .0))
 kind-once Overhang Overhang S i j x y = refl
+kind-once Overhang TwoLeaders S i j x y = absurd (y .0 x)
+kind-once TwoLeaders Labels S i j x y = absurd (not-both (y .1) (x .1))
+kind-once TwoLeaders LabelAndLeader S i j x (inl y) = absurd (not-both (y .0) (x .1))
+kind-once TwoLeaders LabelAndLeader S i j x (inr y) = absurd (not-both (y .1) (x .2))
+kind-once TwoLeaders Overhang S i j x y = absurd (x .0 y)
+kind-once TwoLeaders TwoLeaders S i j x y = refl
 
 -- A CLASH OF TWO POSITIONS: none, and they don't clash; or the two, with their kind, and they do.
 data ClashIs (P : Points) (S : Choice) (i j : ℕ) : Clash → Type 0 where
@@ -152,7 +163,7 @@ own-is P S i =
     none a (inl x) = not-both (x .1 .0) a
     none a (inr x) = x .0 refl
 
-module _ (P : Points) (S : Choice) (wide : 1 ≤ P .w) (d : DistinctRows P) where
+module _ (P : Points) (S : Choice) (wide : 1 ≤ P .w) where
   -- of two positions, which clash exactly if they conflict
   pair-is : (i j : ℕ) → i < j → j < P .n → ClashIs P S i j (pairClash P S i j)
   unfolding pairClash Conflict
@@ -163,7 +174,7 @@ module _ (P : Points) (S : Choice) (wide : 1 ≤ P .w) (d : DistinctRows P) wher
       (λ b. rw (a, b) (pair-if LabelAndLeader (dec-hits P i j) (λ o. rw (a, b) o) (λ c. rw (a, b) at c) (inl (a, b)))))
       (λ a. decide (S j)
       (λ b. rw (a, b) (pair-if LabelAndLeader (dec-hits P j i) (λ o. rw (a, b) o) (λ c. rw (a, b) at c) (inr (a, b))))
-      (λ b. rw (a, b) (apart (λ x. one-row a b (of x)))))
+      (λ b. rw (a, b) (pair-if TwoLeaders (dec-eq _ _) (λ o. rw (a, b) o) (λ c. rw (a, b) at c) (differ, a, b))))
     where
       differ : i ≡ j → ⊥
       differ e = omega arith
@@ -179,9 +190,6 @@ module _ (P : Points) (S : Choice) (wide : 1 ≤ P .w) (d : DistinctRows P) wher
       pair-if : (k : ClashKind) {b : Bool} {A : Type 0}
           → Decides b A → (A → Conflict P S i j) → (Conflict P S i j → A) → KindOf k S i j → ClashIs P S i j (clashIf b i j k)
       pair-if k t f g kind = clash-if P S i j k (dec-map (λ x. to (f x)) (λ x. g (of x)) t) kind
-
-      one-row : S i ≡ false → S j ≡ false → Conflict P S i j → ⊥
-      one-row a b c = differ (d .apart i j (omega arith) m (rw (a, b) at c))
 
   ordered-is : (i j : ℕ) → i < j → j < P .n → ClashIs P S i j (orderedClash P S i j)
   ordered-is i j l m = rw (lt-ltb i j l) (pair-is i j l m)
@@ -309,6 +317,26 @@ pub record FirstClashRight (P : Points) (S : Choice) : Type 0 where
 
 pub first-clash-right : (s : List ℕ) (S : Choice) → Accepted s → FirstClashRight (pointsOf s) S
 first-clash-right s S a = record {
-  none = none-valid (pointsOf s) S (a .proper .label-width .0) (a .proper .rows);
-  between = between-iff (pointsOf s) S (a .proper .label-width .0) (a .proper .rows);
+  none = none-valid (pointsOf s) S (a .proper .label-width .0);
+  between = between-iff (pointsOf s) S (a .proper .label-width .0);
 }
+
+-- TWO LEADERS ARE NAMED ONLY IN ONE ROW; so with distinct rows never
+pub leaders-in-one-row : (P : Points) (S : Choice) (i j : ℕ) → Named P S i j TwoLeaders → (i < j) × (P .row i ≡ P .row j)
+leaders-in-one-row P S i j x = by (x .clashing)
+  where
+    k : (i ≡ j → ⊥) × (S i ≡ false) × (S j ≡ false)
+    k = x .kind TwoLeaders .0 refl
+
+    l : i < j
+    l = less i j (λ u. u) (λ g. absurd (k .0 (omega (arith, x .ordered))))
+
+    by : Clashing P S i j → (i < j) × (P .row i ≡ P .row j)
+    by (inl y) = absurd (k .0 (y .0))
+    by (inr y) = (l, outside-apart P S (y .1 .0) i j (omega (arith, l, x .below)) (x .below) (k .1) (k .2) (y .1 .1) (y .1 .2))
+
+pub distinct-rows-no-leaders : (P : Points) (S : Choice) (i j : ℕ) → DistinctRows P → Named P S i j TwoLeaders → ⊥
+distinct-rows-no-leaders P S i j d x =
+    let r = leaders-in-one-row P S i j x in
+    let q = d .apart i j (omega (arith, r .0, x .below)) (x .below) (r .1) in
+    omega (arith, r .0)

@@ -1,14 +1,14 @@
--- The first clash of a choice and its kind (document 01, "The desk", and document 02 (a)), by tests on any points and any choice.
+-- The first clash of a choice and its kind (document 01, "The desk", and document 02 (a) and (c)), by tests on any points and any choice.
 -- ClashPixels.antt shows that on an accepted sheet it is the first of the labels that leave the map and the pairs of points that mark one
 -- pixel. Assumes nothing.
 use mathlib.Core.Bool.{Bool, true, false, cond, not}
 use Prim.Native.Nat.{ℕ, zero, suc}
-use lib.Dec.{ltb}
+use lib.Dec.{ltb, eqb}
 use Rattle.labeling.specs.Points.{Points, Choice}
 use Rattle.labeling.specs.Marks.{labelOnMapB}
 use Rattle.labeling.specs.Conflicts.{overlapB, hitsB}
 use Rattle.clash.specs.declared.ClashKind.{ClashKind}
-use Rattle.clash.specs.declared.ClashKind.the-variants.{Labels, LabelAndLeader, Overhang}
+use Rattle.clash.specs.declared.ClashKind.the-variants.{Labels, LabelAndLeader, Overhang, TwoLeaders}
 use Rattle.clash.specs.declared.Clash.{Clash}
 use Rattle.clash.specs.declared.Clash.the-variants.{None, Between}
 
@@ -26,13 +26,13 @@ orElse (Between i j k) later = Between i j k
 abbrev pub clashIf : Bool → ℕ → ℕ → ClashKind → Clash
 clashIf met i j k = cond met (Between i j k) None
 
--- "Two inside points clash by their labels, an inside and an outside point by label and leader." Two outside points never do, since
--- their rows differ.
+-- "Two inside points clash by their labels, an inside and an outside point by label and leader." And document 02 (c): "Two leaders in one
+-- row share pixels", so "a mark can name two leaders as its clash".
 unfoldable pub pairClash : Points → Choice → ℕ → ℕ → Clash
 pairClash P S i j =
     cond (S i)
     (cond (S j) (clashIf (overlapB P i j) i j Labels) (clashIf (hitsB P i j) i j LabelAndLeader))
-    (cond (S j) (clashIf (hitsB P j i) i j LabelAndLeader) None)
+    (cond (S j) (clashIf (hitsB P j i) i j LabelAndLeader) (clashIf (eqb (P .row i) (P .row j)) i j TwoLeaders))
 
 -- Document 02 (a): "an overhang counts as a clash of a position with itself and gets its own kind". Only an inside label overhangs.
 unfoldable pub ownClash : Points → Choice → ℕ → Clash

@@ -9,17 +9,19 @@ use format::within;
 ghost use mathlib.Core.Path.{_≡_};
 ghost use Prim.Native.Nat.{_<_};
 ghost use Rattle.labeling.specs.Conflicts.{overlapB, hitsB};
-ghost use Rattle.format.specs.Sheet.{pointCount, pointsOf};
+ghost use lib.Dec.{eqb};
+ghost use Rattle.format.specs.Sheet.{pointCount, row as rowOf, pointsOf};
 ghost use Rattle.format.specs.Plate.{choiceOf};
 ghost use Rattle.format.specs.Stretches.{stretchesOverlap};
 ghost use Rattle.clash.specs.FirstClash.{isClash, clashIf, pairClash, ownClash, laterClash, clashOf, firstClash};
 ghost use Rattle.clash.specs.ChoiceFlags.{nobodyInside, held, flagsOf};
 
-// Whether two labels met, a label met a leader, or a label leaves the map.
+// Whether two labels met, a label met a leader, a label leaves the map, or two leaders met.
 pub enum ClashKind {
     Labels,
     LabelAndLeader,
     Overhang,
+    TwoLeaders,
 }
 
 // No clash, or the two positions that clash and how. An overhang is a clash of a position with itself.
@@ -103,6 +105,13 @@ fn label_hits_leader(sheet: &[u8], i: u8, j: u8) -> bool
     false
 }
 
+// The leaders of two positions share pixels: they are in one row.
+fn leaders_meet(sheet: &[u8], i: u8, j: u8) -> bool
+    ensures { λ r. ⌜ r ≡ eqb (rowOf (now (sheet .entry)) i) (rowOf (now (sheet .entry)) j) ⌝ }
+{
+    row(sheet, i) == row(sheet, j)
+}
+
 // A clash where a test says that there is one.
 fn clash_if(met: bool, first: u8, second: u8, kind: ClashKind) -> Clash
     ensures { λ r. ⌜ r ≡ clashIf met first second kind ⌝ }
@@ -142,7 +151,7 @@ fn pair_clash(sheet: &[u8], inside: &[bool; 256], i: u8, j: u8) -> Clash
             ClashKind::LabelAndLeader,
         );
     }
-    Clash::None
+    clash_if(leaders_meet(sheet, i, j), i, j, ClashKind::TwoLeaders)
 }
 
 // The clash of a position with itself: it is inside and its label leaves the map.

@@ -15,5 +15,5 @@ accepted-fits s e =
       high = p .label-height .0;
       column-below = λ i l. omega (arith, p .on-map i l, p .map-width);
       row-below = λ i l. omega (arith, p .on-map i l, p .map-height);
-      rows-apart = p .rows .apart;
+      pixels-apart = p .pixels .apart;
     }

@@ -1,7 +1,7 @@
 -- `clash::pair_clash` meets its contract. Assumes nothing.
 use borrow.Author.Needs.{needs}
 use mathlib.Core.Path.{ap, _∙_}
-use Rattle.clash.specs.declared.ClashKind.the-variants.{Labels, LabelAndLeader}
+use Rattle.clash.specs.declared.ClashKind.the-variants.{Labels, LabelAndLeader, TwoLeaders}
 use Rattle.clash.specs.FirstClash.{clashIf}
 use Rattle.clash.proofs.Laws.{pair-labels, pair-leader-second, pair-leader-first, pair-leaders}
 use Rattle.clash.proofs.pair_clash.Statement.{statement}
@@ -49,8 +49,17 @@ returns-3 c =
     pair-leader-first _ _ _ _ _ (c .before .before .before .if1 .left) (c .before .before .if3 .taken)
     (c .clash-if3 .ensures ∙ ap (λ met. clashIf met (a .i) (a .j) LabelAndLeader) (c .before .label-hits-leader2 .ensures))
 
+leaders-meet-requires : tie.Need-leaders-meet-requires
+leaders-meet-requires c κs = search needs
+
+clash-if-requires-4 : tie.Need-clash-if-requires-4
+clash-if-requires-4 c κs = search needs
+
 returns-4 : tie.Need-returns-4
-returns-4 c = pair-leaders _ _ _ _ (c .before .if1 .left) (c .if3 .left)
+returns-4 c =
+    let a = c .before .before .before .before .before .before .before .args in
+    pair-leaders _ _ _ _ _ (c .before .before .before .if1 .left) (c .before .before .if3 .left)
+    (c .clash-if4 .ensures ∙ ap (λ met. clashIf met (a .i) (a .j) TwoLeaders) (c .before .leaders-meet .ensures))
 
 pub pair-clash-spec : {M : Type 1} → statement M
 pair-clash-spec =
@@ -67,4 +76,6 @@ pair-clash-spec =
     label-hits-leader-requires-2
     clash-if-requires-3
     returns-3
+    leaders-meet-requires
+    clash-if-requires-4
     returns-4)
