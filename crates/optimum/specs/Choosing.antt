@@ -10,7 +10,7 @@ use Rattle.labeling.specs.Best.{count, bestCount}
 use Rattle.format.specs.Sheet.{pointCount, pointsOf}
 use Rattle.format.specs.Plate.{insideBelow}
 use Rattle.format.specs.Padded.{padded}
-use Rattle.format.specs.MakingQuestions.{askedNo, workspaceAfter}
+use Rattle.format.specs.MakingQuestions.{choiceNo, choosingNo, workspaceAfter}
 use Rattle.optimum.specs.declared.BestChoice.{BestChoice}
 
 -- The two lists of a valid choice with the best count, each in 32 cells: "one byte for each inside position, ascending", and the outside
@@ -35,10 +35,16 @@ nothingChosen k = record {
   «outside_count» = 0;
 }
 
+-- What is chosen of an accepted sheet: the lists, or 61.
+pub record ChosenOf (s : List ℕ) (r : BestChoice) : Type 0 where
+  pub no : r .no ≡ choiceNo s
+  pub chosen : r .no ≡ 0 → BestSplit s r
+  pub refused : (r .no ≡ 0 → ⊥) → r ≡ nothingChosen (r .no)
+
 -- THE PROMISE of best_choice, on any sheet s, any answer `fits` to 21 and any workspace w: the number of the first no; the workspace; and
 -- the lists.
 pub record Choosing (s : List ℕ) (fits : Bool) (w : List ℕ) (r : BestChoice) (w′ : List ℕ) : Type 0 where
-  pub no : r .no ≡ askedNo s fits (length w)
+  pub no : r .no ≡ choosingNo s fits (length w)
   pub workspace : w′ ≡ workspaceAfter (r .no) w
   pub chosen : r .no ≡ 0 → BestSplit s r
   pub refused : (r .no ≡ 0 → ⊥) → r ≡ nothingChosen (r .no)

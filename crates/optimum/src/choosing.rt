@@ -8,7 +8,7 @@ ghost use Rattle.orders.specs.Arrays.{heightsOf};
 ghost use Rattle.optimum.specs.Packed.{Packed};
 ghost use Rattle.optimum.specs.Table.{Room, Blank, Solved};
 ghost use Rattle.optimum.specs.Split.{Numbered};
-ghost use Rattle.optimum.specs.Choosing.{BestSplit, nothingChosen};
+ghost use Rattle.optimum.specs.Choosing.{nothingChosen, ChosenOf};
 ghost use Rattle.optimum.specs.Chosen.{TwoLists};
 ghost use Rattle.orders.specs.Layout.{fieldCells};
 use crate::BestChoice;
@@ -96,17 +96,20 @@ fn solve(heights: &PointArray, workspace: &mut [u16], flags: &mut Flags) -> u64
     best
 }
 
-// A best choice of an accepted sheet, whose points are in order. The workspace is left zero.
+// A best choice of an accepted sheet, whose points are in order, or 61 where no choice is valid. The workspace is left zero.
 pub(crate) fn chosen(sheet: &[u8], points: PointArray, workspace: &mut [u16]) -> BestChoice
     requires { ⌜ (sheetNo (now sheet) ≡ 0) × BothOrders (now sheet) points × Room (now workspace) ⌝ }
-    ensures { λ r. ⌜ (r .no ≡ 0) × BestSplit (now (sheet .entry)) r
+    ensures { λ r. ⌜ ChosenOf (now (sheet .entry)) r
         × (now (workspace .exit) ≡ replicate (length (now (workspace .entry))) 0) ⌝ }
 {
     let mut heights = points;
     write_limits(&mut heights);
     let mut flags = none_flagged();
-    solve(&heights, workspace, &mut flags);
+    let value = solve(&heights, workspace, &mut flags);
     clear(workspace);
+    if value == 0 {
+        return nothing_chosen(61);
+    }
     let choice = by_position(&heights, &flags);
     two_lists(format::point_count(sheet), &heights, &choice)
 }

@@ -40,7 +40,7 @@ pub record BestOutput (s o o′ : List ℕ) : Type 0 where
   pub best : count (pointsOf s) choice ≡ bestCount (pointsOf s)
   pub plate : o′ ≡ plateOf s choice ++ drop (length (plateOf s choice)) o
 
--- The output o after a call: by cases on the answer. "buffers, workspace and desk stay untouched" on a refusal.
+-- The output o after a call: by cases on the answer. "buffers ... stay untouched" on a refusal, 61 included.
 abbrev pub OutputAfter : List ℕ → MakeAnswer → List ℕ → List ℕ → Type 0
 OutputAfter s (Made written) o o′ = BestOutput s o o′
 OutputAfter s (Refused k) o o′ = o′ ≡ o

@@ -15,7 +15,7 @@ use Rattle.plate_maker.specs.Making.{makeOutcomeOf, BestOutput, Making}
 use Rattle.plate_maker.specs.declared.MakeAnswer.{MakeAnswer}
 use Rattle.plate_maker.specs.declared.MakeAnswer.the-variants.{Made, Refused}
 
--- refused: everything is as it was
+-- refused: the output is as it was
 pub refused-making : (s o w w′ : List ℕ) (k : ℕ) → k ≡ makingNo s (length o) (length w) → (k ≡ 0 → ⊥) → w′ ≡ workspaceAfter k w
     → Making s o w (Refused k) o w′
 refused-making s o w w′ k e ne z = record {
@@ -47,7 +47,7 @@ module _ {s o w o′ w′ : List ℕ} {k : ℕ} (m : Making s o w (Made k) o′ 
   made-none = sym (λ i. m .outcome i .no)
 
   pub made-accepted : Accepted s
-  made-accepted = none-making s (length o) (length w) .is made-none .0
+  made-accepted = none-making s (length o) (length w) .is made-none .0 .0
 
   made-length : length (plateOf s (m .output .choice)) ≡ k
   made-length =

@@ -35,7 +35,7 @@ returns-2 c =
     chosen-choosing _ _ _ _ (r .result)
     (sym (c .before .before .before .before .before .before .before .ordered-points .ensures .no)
     ∙ c .before .before .before .before .before .if1 .left)
-    (r .ensures .0) (r .ensures .2) (r .ensures .1)
+    (r .ensures .1) (r .ensures .0)
 
 pub best-choice-spec : {M : Type 1} → statement M
 best-choice-spec =

@@ -36,7 +36,7 @@ write-best-requires c κs =
     let choice = c .before .before .before .before .before .best-choice .ensures in
     let none = c .before .if1 .left in
     let f = none-making _ _ _ .is (sym (first-no (c .before .before .before .before .before)) ∙ none) in
-    (none-sheet _ .of (f .0), choice .chosen none, f .1 .0)
+    (none-sheet _ .of (f .0 .0), choice .chosen none, f .0 .1 .0)
 
 same-length-2 : tie.Need-same-length-2
 same-length-2 c = search needs

@@ -1,12 +1,12 @@
 -- `optimum::choosing::chosen` meets its contract: the calls in turn. Assumes nothing.
-use mathlib.Core.Path.{_∙_, ap}
+use mathlib.Core.Path.{_≡_, _∙_, ap}
 use Prim.Native.Nat.{ℕ}
 use native.Mathlib.Omega.{arith}
-use lib.ListN.{replicate}
+use lib.ListN.{length, replicate}
 use Rattle.format.specs.Accepted.{Accepted, accepted}
 use Rattle.optimum.specs.Prepared.{Prepared, prepared}
 use Rattle.optimum.specs.Split.{numbered}
-use Rattle.optimum.specs.Chosen.{none-blank, best-split}
+use Rattle.optimum.specs.Chosen.{none-blank, none-valid, lists-chosen, none-chosen}
 use borrow.Author.Needs.{needs}
 use Rattle.optimum.proofs.choosing.chosen.Statement.{statement}
 use Rattle.optimum.proofs.choosing.chosen.Tie as tie
@@ -35,35 +35,57 @@ solve-requires c κs = (
 clear-requires : tie.Need-clear-requires
 clear-requires c κs = search needs
 
-by-position-requires : tie.Need-by-position-requires
-by-position-requires c κs =
-    let limits = c .before .before .before .before .before .before .before .before .before .before .before .before .before in
-    numbered _ (fine (limits .before .before .before .before) .proper .few) (ready limits .arranged)
+-- once the workspace is clear: the state after the limits were written, the array, the value, and that the workspace is zero
+abbrev limits-of : tie.After-clear → tie.After-write-limits
+limits-of c = c .before .before .before .before .before .before .before .before .before
 
-point-count-requires : tie.Need-point-count-requires
-point-count-requires c κs = search needs
+abbrev start-of : tie.After-clear → tie.Start
+start-of c = limits-of c .before .before .before .before
 
-two-lists-requires : tie.Need-two-lists-requires
-two-lists-requires c κs =
-    let limits = c .before .before .before .before .before .before .before .before .before .before .before .before .before .before .before
-    .before .before in
-    let f = fine (limits .before .before .before .before) in
-    (omega (arith, f .proper .few, c .before .before .point-count .ensures), numbered _ (f .proper .few) (ready limits .arranged))
+zero : (c : tie.After-clear)
+    → c .clear .last .0 ≡ replicate (length (start-of c .args .workspace .now)) 0
+zero c = c .clear .ensures ∙ ap (λ (n : ℕ). replicate n 0) (c .before .before .before .before .solve .ensures .2)
+
+nothing-chosen-requires : tie.Need-nothing-chosen-requires
+nothing-chosen-requires c κs = search needs
 
 same-length : tie.Need-same-length
 same-length c = search needs
 
 returns : tie.Need-returns
 returns c =
-    let limits = c .before .before .before .before .before .before .before .before .before .before .before .before .before .before .before
-    .before .before .before in
-    let solved =
-    c .before .before .before .before .before .before .before .before .before .before .before .before .before .solve .ensures in
+    let clear = c .before .before .before .before in
+    let solved = clear .before .before .before .before .solve .ensures .0 in (
+      none-chosen _ _ (c .nothing-chosen .ensures)
+          (none-valid _ _ _ (fine (start-of clear)) (ready (limits-of clear)) solved (c .before .if1 .taken)),
+      zero clear,
+    )
+
+by-position-requires : tie.Need-by-position-requires
+by-position-requires c κs =
+    let clear = c .before .before .before .before .before in
+    numbered _ (fine (start-of clear) .proper .few) (ready (limits-of clear) .arranged)
+
+point-count-requires : tie.Need-point-count-requires
+point-count-requires c κs = search needs
+
+two-lists-requires : tie.Need-two-lists-requires
+two-lists-requires c κs =
+    let clear = c .before .before .before .before .before .before .before .before .before in
+    let f = fine (start-of clear) .proper .few in
+    (omega (arith, f, c .before .before .point-count .ensures), numbered _ f (ready (limits-of clear) .arranged))
+
+same-length-2 : tie.Need-same-length-2
+same-length-2 c = search needs
+
+returns-2 : tie.Need-returns-2
+returns-2 c =
+    let clear = c .before .before .before .before .before .before .before .before .before .before in
+    let solved = clear .before .before .before .before .solve .ensures .0 in
     let lists = rw (c .before .before .before .point-count .ensures) at (c .two-lists .ensures) in (
-      lists .no,
-      best-split _ _ _ _ (fine (limits .before .before .before .before)) (ready limits) (solved .0)
+      lists-chosen _ _ _ _ (fine (start-of clear)) (ready (limits-of clear)) solved (c .before .before .before .before .before .before .before .if1 .left)
           (record { at = c .before .before .before .before .by-position .ensures }) (c .two-lists .result) lists,
-      c .before .before .before .before .before .before .before .before .before .clear .ensures ∙ ap (λ (n : ℕ). replicate n 0) (solved .2),
+      zero clear,
     )
 
 pub chosen-spec : {M : Type 1} → statement M
@@ -74,8 +96,11 @@ chosen-spec =
     none-flagged-requires
     solve-requires
     clear-requires
+    nothing-chosen-requires
+    same-length
+    returns
     by-position-requires
     point-count-requires
     two-lists-requires
-    same-length
-    returns)
+    same-length-2
+    returns-2)

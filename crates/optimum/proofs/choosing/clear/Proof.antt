@@ -43,9 +43,8 @@ same-length c = search needs
 
 returns : tie.Need-returns Inv-loop μ-loop
 returns c =
-    let w = c .before .before .args .workspace .now in
     let l = c .before .loop in
-    let e : l .i ≡ length w = omega arith in
+    let e : l .i ≡ length (c .before .before .args .workspace .now) = omega arith in
     l .inv .2 ∙ rw (e, drop-length, append-nil)
 
 pub clear-spec : {M : Type 1} → statement M
