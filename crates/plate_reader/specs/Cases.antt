@@ -1,9 +1,9 @@
--- Document 01's cases P1 to P10, labels at the map's edges (document 02 (a)) and stacked outer labels (document 02 (b)), from the sheet's
--- bytes: one table, one theorem. What the theorem says is in the words of labeling (valid and best over pixels) and of format's Plate.antt;
+-- Document 01's cases P1 to P10, labels at the map's edges (document 02 (a)), stacked outer labels (document 02 (b)) and shared rows
+-- (document 02 (c)), from the sheet's bytes: one table, one theorem. What the theorem says is in the words of labeling (valid and best over pixels) and of format's Plate.antt;
 -- the tests only compute it.
 -- Assumes nothing.
-use mathlib.Core.Path.{_≡_, refl}
-use mathlib.Core.Bool.{Bool, true, false, _&&_}
+use mathlib.Core.Path.{_≡_, refl, sym, ap, _∙_}
+use mathlib.Core.Bool.{Bool, true, false, cond, _&&_}
 use mathlib.Core.List.{List, [], _∷_, _++_}
 use Prim.Native.Nat.{ℕ}
 use lib.Dec.{T, eqb}
@@ -21,7 +21,7 @@ use Rattle.format.specs.Plate.{choiceOf, insideBelow, insideSection, pairs, out
 use Rattle.format.specs.Bytes.{sameBytes, dec-bytes}
 use Rattle.format.specs.Ascending.{ascending}
 use Rattle.clash.specs.declared.ClashKind.{ClashKind}
-use Rattle.clash.specs.declared.ClashKind.the-variants.{Labels, LabelAndLeader, Overhang}
+use Rattle.clash.specs.declared.ClashKind.the-variants.{Labels, LabelAndLeader, Overhang, TwoLeaders}
 use Rattle.clash.specs.declared.Clash.{Clash}
 use Rattle.clash.specs.declared.Clash.the-variants.{None, Between}
 use Rattle.clash.specs.FirstClash.{pairClash, ownClash, firstOf, laterClash, clashOf, firstClash}
@@ -76,6 +76,10 @@ framed n points = 1 ∷ 20 ∷ 0 ∷ 10 ∷ 0 ∷ 4 ∷ 0 ∷ 2 ∷ 0 ∷ n ∷ 
 -- Label 4 by 3, points (11,2), (8,6), (6,5), (5,4), (10,0).
 abbrev pub sheetOfFive : List ℕ
 sheetOfFive = sheet 4 3 5 (at 1 11 2 (at 2 8 6 (at 3 6 5 (at 4 5 4 (at 5 10 0 [])))))
+
+-- Label 4 by 2, two points of row 3 in these columns.
+abbrev pub ridge : ℕ → ℕ → List ℕ
+ridge c d = sheet 4 2 2 (at 1 c 3 (at 2 d 3 []))
 
 abbrev pub cases : List Case
 cases =
@@ -173,6 +177,39 @@ cases =
       inside = 0 ∷ 1 ∷ 2 ∷ [];
       expected = clashes 1 1 Overhang;
       added = 3 ∷ 0 ∷ 1 ∷ 2 ∷ 0 ∷ [];
+    } ∷
+    -- document 02 (c), (2,3) and (8,3): both inside
+    record { sheet = ridge 2 8; inside = 0 ∷ 1 ∷ []; expected = onlyBest; added = 2 ∷ 0 ∷ 1 ∷ 0 ∷ [] } ∷
+    -- the left one inside, the right one outside: its leader runs through the label
+    record { sheet = ridge 2 8; inside = 0 ∷ []; expected = clashes 0 1 LabelAndLeader; added = 1 ∷ 0 ∷ 1 ∷ 1 ∷ 0 ∷ [] } ∷
+    -- the left one outside, the right one inside
+    record { sheet = ridge 2 8; inside = 1 ∷ []; expected = valid; added = 1 ∷ 1 ∷ 1 ∷ 0 ∷ 0 ∷ [] } ∷
+    -- both outside: "Two leaders in one row share pixels"; "with the smaller column first", side by side, "so such a plate gets 44"
+    record { sheet = ridge 2 8; inside = []; expected = clashes 0 1 TwoLeaders; added = 0 ∷ 2 ∷ 0 ∷ 0 ∷ 1 ∷ 1 ∷ [] } ∷
+    -- the smaller column is the second position's
+    record { sheet = ridge 8 2; inside = []; expected = clashes 0 1 TwoLeaders; added = 0 ∷ 2 ∷ 1 ∷ 0 ∷ 0 ∷ 1 ∷ [] } ∷
+    -- the labels of (2,3) and (5,3) would meet: the left one is outside
+    record { sheet = ridge 2 5; inside = 1 ∷ []; expected = onlyBest; added = 1 ∷ 1 ∷ 1 ∷ 0 ∷ 0 ∷ [] } ∷
+    -- one outside in each of two shared rows
+    record {
+      sheet = sheet 4 2 4 (at 1 2 3 (at 2 5 3 (at 3 10 8 (at 4 12 8 []))));
+      inside = 1 ∷ 3 ∷ [];
+      expected = onlyBest;
+      added = 2 ∷ 1 ∷ 3 ∷ 2 ∷ 2 ∷ 0 ∷ 0 ∷ 0 ∷ [];
+    } ∷
+    -- (2,3) and (8,3) are two leaders; the label of (3,3), the third, is on the second's leader: the two leaders come first
+    record {
+      sheet = sheet 4 2 3 (at 1 2 3 (at 2 8 3 (at 3 3 3 [])));
+      inside = 2 ∷ [];
+      expected = clashes 0 1 TwoLeaders;
+      added = 1 ∷ 2 ∷ 2 ∷ 0 ∷ 0 ∷ 1 ∷ 1 ∷ [];
+    } ∷
+    -- the label of (3,3), now the first, is on the leader of (8,3), the third; the second and the third are two leaders, and come later
+    record {
+      sheet = sheet 4 2 3 (at 1 3 3 (at 2 2 3 (at 3 8 3 [])));
+      inside = 0 ∷ [];
+      expected = clashes 0 2 LabelAndLeader;
+      added = 1 ∷ 0 ∷ 2 ∷ 1 ∷ 0 ∷ 2 ∷ 1 ∷ [];
     } ∷ []
 
 -- WHAT A CASE SAYS
@@ -200,20 +237,19 @@ Each (c ∷ cs) = Right c × Each cs
 
 -- THE TESTS
 
-abbrev sameKind : ClashKind → ClashKind → Bool
-sameKind Labels Labels = true
-sameKind Labels LabelAndLeader = false
-sameKind Labels Overhang = false
-sameKind LabelAndLeader Labels = false
-sameKind LabelAndLeader LabelAndLeader = true
-sameKind LabelAndLeader Overhang = false
-sameKind Overhang Labels = false
-sameKind Overhang LabelAndLeader = false
-sameKind Overhang Overhang = true
+-- A number for each kind, and back.
+abbrev kindNumber : ClashKind → ℕ
+kindNumber Labels = 0
+kindNumber LabelAndLeader = 1
+kindNumber Overhang = 2
+kindNumber TwoLeaders = 3
+
+abbrev kindOf : ℕ → ClashKind
+kindOf k = cond (eqb k 0) Labels (cond (eqb k 1) LabelAndLeader (cond (eqb k 2) Overhang TwoLeaders))
 
 abbrev sameClash : Clash → ℕ → ℕ → ClashKind → Bool
 sameClash None i j k = false
-sameClash (Between a b m) i j k = eqb a i && (eqb b j && sameKind m k)
+sameClash (Between a b m) i j k = eqb a i && (eqb b j && eqb (kindNumber m) (kindNumber k))
 
 abbrev saysB : Expected → Points → Choice → Bool
 saysB onlyBest P S = onlyBestB P oneEach S
@@ -232,16 +268,14 @@ abbrev eachB : List Case → Bool
 eachB [] = true
 eachB (c ∷ cs) = rightB c && eachB cs
 
-same-kind : (m k : ClashKind) → sameKind m k ≡ true → m ≡ k
-same-kind Labels Labels e = refl
-same-kind Labels LabelAndLeader e = absurd (not-both e refl)
-same-kind Labels Overhang e = absurd (not-both e refl)
-same-kind LabelAndLeader Labels e = absurd (not-both e refl)
-same-kind LabelAndLeader LabelAndLeader e = refl
-same-kind LabelAndLeader Overhang e = absurd (not-both e refl)
-same-kind Overhang Labels e = absurd (not-both e refl)
-same-kind Overhang LabelAndLeader e = absurd (not-both e refl)
-same-kind Overhang Overhang e = refl
+kind-back : (k : ClashKind) → kindOf (kindNumber k) ≡ k
+kind-back Labels = refl
+kind-back LabelAndLeader = refl
+kind-back Overhang = refl
+kind-back TwoLeaders = refl
+
+same-kind : (m k : ClashKind) → eqb (kindNumber m) (kindNumber k) ≡ true → m ≡ k
+same-kind m k e = sym (kind-back m) ∙ ap kindOf (eqb-true (kindNumber m) (kindNumber k) e) ∙ kind-back k
 
 same-clash : (c : Clash) (i j : ℕ) (k : ClashKind) → sameClash c i j k ≡ true → c ≡ Between i j k
 same-clash None i j k e = absurd (not-both e refl)

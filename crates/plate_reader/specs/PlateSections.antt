@@ -114,9 +114,10 @@ module _ (s t : List ℕ) (alike : (k : ℕ) → k < sheetLength s → getD s k 
         at (p .on-map i (below-same i l));
     calls = λ i j l m e.
         p .calls i j (below-same i l) (below-same j m) (field-same 10 i (omega arith) l ∙ e ∙ sym (field-same 10 j (omega arith) m));
-    rows = record {
-      apart = λ i j l m e. p .rows .apart i j (below-same i l) (below-same j m)
-          (field-same 14 i (omega arith) l ∙ e ∙ sym (field-same 14 j (omega arith) m));
+    pixels = record {
+      apart = λ i j l m r c. p .pixels .apart i j (below-same i l) (below-same j m)
+          (field-same 14 i (omega arith) l ∙ r ∙ sym (field-same 14 j (omega arith) m))
+          (field-same 12 i (omega arith) l ∙ c ∙ sym (field-same 12 j (omega arith) m));
     };
   }
 

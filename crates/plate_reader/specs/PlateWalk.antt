@@ -1,5 +1,4 @@
 -- On a plate whose sheet, sections and inside list are right, the walk answers question 43. Assumes nothing.
-use Rattle.labeling.specs.Points.{distinct-rows}
 use mathlib.Core.Path.{_≡_, sym, ap, _∙_}
 use mathlib.Core.Bool.{true}
 use mathlib.Core.List.{List}
@@ -19,5 +18,5 @@ walk-answers p sheet fit up =
     let q = none-plate-sheet p .is sheet in
     let f = dec-fit p .is fit in
     let a = start-accepted p (q .1) (q .0) in
-    walk-right (pointsOf (sheetOf p)) (choiceOf (insideList p)) (outsidePairs p) (distinct-rows (pointsOf (sheetOf p)) (a .proper .rows))
+    walk-right (pointsOf (sheetOf p)) (choiceOf (insideList p)) (outsidePairs p) (a .proper .pixels)
     (outside-bytes p f ∙ ap (λ n. 2 * n) (sym (outside-counted p f (q .1) up)))

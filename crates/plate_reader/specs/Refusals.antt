@@ -1,20 +1,27 @@
 -- Sheets with the number of their first no: one table, one theorem. It shows each question 11 to 20 refuse something, each limit from
--- both sides, and the order of the questions where a sheet has several that are answered no. Then plates whose margin columns aren't the
--- rule's. Assumes nothing.
+-- both sides, and the order of the questions where a sheet has several that are answered no. Then plates whose outside pairs aren't the
+-- rule's, and sheets without a valid choice. Assumes nothing.
 use mathlib.Core.Path.{_≡_, refl}
-use mathlib.Core.Bool.{Bool, true, _&&_}
+use mathlib.Core.Bool.{Bool, true, not, _&&_}
 use mathlib.Core.List.{List, [], _∷_, _++_}
-use Prim.Native.Nat.{ℕ, zero, suc}
+use Prim.Native.Nat.{ℕ, zero, suc, _≤_, pred}
 use lib.Dec.{eqb}
 use borrow.Author.Tests.{eqb-true}
+use native.Mathlib.Omega.{arith}
 use Rattle.labeling.specs.Points.{before, insert, outsideBelow, outside, nextMargin, placedFrom, placed, among}
-use Rattle.labeling.specs.Conflicts.{every}
+use Rattle.labeling.specs.Conflicts.{conflictB, every, apartB, withinB, validB}
+use Rattle.labeling.specs.Best.{weightBelow, weight, put, bestFrom, best, Feasible}
 use Rattle.labeling.specs.Decide.{and-left, and-right}
-use Rattle.format.specs.Sheet.{twoBytes, unlikeEarlier, pointNo, pointsNo, questionsNo, sheetNo, plateSheetNo}
-use Rattle.format.specs.Plate.{pairs}
+use Rattle.format.specs.Sizes.{workspaceCells}
+use Rattle.format.specs.Sheet.{twoBytes, pointCount, pointsOf, unlikeEarlier, pointNo, pointsNo, questionsNo, sheetNo, plateSheetNo}
+use Rattle.format.specs.Asking.{ask-most, then-most}
+use Rattle.format.specs.MakingQuestions.{askedNo, choosingNo, makingNo, loadNo}
+use Rattle.format.specs.SharedRows.{plate-sheet-most, making-61}
+use Rattle.format.specs.Plate.{choiceOf, pairs}
 use Rattle.format.specs.Ascending.{ascending}
+use Rattle.clash.specs.FirstClash.{isClash, firstClash}
 use Rattle.plate_reader.specs.PlateQuestions.{sheetOf, insideList, outsidePairs, sectionsFit, pairsRight, sectionsNo, plateNo}
-use Rattle.plate_reader.specs.Cases.{at, sheet, sheet1, stacked, touching}
+use Rattle.plate_reader.specs.Cases.{at, sheet, sheet1, stacked, touching, ridge}
 
 -- A sheet and the number of its first no, 0 for none.
 pub record Row : Type 0 where
@@ -62,11 +69,14 @@ table =
     row 0 (sheet 4 2 1 (at 1 19 11 [])) ∷ row 18 (sheet 4 2 1 (at 1 20 3 [])) ∷ row 18 (sheet 4 2 1 (at 1 2 12 [])) ∷
     row 18 (sheet 4 2 2 (at 1 2 3 (at 1 20 4 []))) ∷
     -- "Is the call number unlike every earlier one? 19": it is asked before 20
-    row 19 (sheet 4 2 2 (at 1 2 3 (at 1 6 4 []))) ∷ row 19 (sheet 4 2 2 (at 1 2 3 (at 1 6 3 []))) ∷
-    -- "The row unlike every earlier one? 20": the second point's; the third's, which repeats the first's
-    row 20 (sheet 4 2 2 (at 1 2 3 (at 2 6 3 []))) ∷ row 20 (sheet 4 2 3 (at 1 2 3 (at 2 6 4 (at 3 10 3 [])))) ∷
-    -- "Point by point": the second repeats a row, and the third's call number is 0
-    row 20 (sheet 4 2 3 (at 1 2 3 (at 2 6 3 (at 0 10 7 [])))) ∷ []
+    row 19 (sheet 4 2 2 (at 1 2 3 (at 1 6 4 []))) ∷ row 19 (sheet 4 2 2 (at 1 2 3 (at 1 2 3 []))) ∷
+    -- "20 is kept for two points on one pixel" (document 02 (c)): the second point repeats the first's; the third does; one row alone is
+    -- no repeat, nor one column, nor a column and a row of different points
+    row 20 (sheet 4 2 2 (at 1 2 3 (at 2 2 3 []))) ∷ row 20 (sheet 4 2 3 (at 1 2 3 (at 2 6 4 (at 3 2 3 [])))) ∷
+    row 0 (sheet 4 2 2 (at 1 2 3 (at 2 6 3 []))) ∷ row 0 (sheet 4 2 2 (at 1 2 3 (at 2 2 4 []))) ∷
+    row 0 (sheet 4 2 3 (at 1 2 3 (at 2 6 4 (at 3 2 4 [])))) ∷
+    -- "Point by point": the second repeats a pixel, and the third's call number is 0
+    row 20 (sheet 4 2 3 (at 1 2 3 (at 2 2 3 (at 0 10 7 [])))) ∷ []
 
 -- Every sheet has the number of its row.
 abbrev pub Each : List Row → Type 0
@@ -103,3 +113,57 @@ pub not-the-rules : (plateNo (touching ++ 0 ∷ 2 ∷ 0 ∷ 0 ∷ 1 ∷ 0 ∷ []
 unfolding twoBytes every unlikeEarlier pointNo pointsNo questionsNo plateSheetNo among before insert outsideBelow outside nextMargin
     placedFrom placed pairs sheetOf insideList outsidePairs sectionsFit ascending pairsRight sectionsNo plateNo
 not-the-rules = (refl, refl, refl)
+
+-- "In a plate that is read, outside points of one row stand with the smaller column first and take margin columns by the same rule"
+-- (document 02 (c)): (2,3) and (8,3) with the greater column first, and with both in margin column 0.
+pub not-in-order : (plateNo (ridge 2 8 ++ 0 ∷ 2 ∷ 1 ∷ 0 ∷ 0 ∷ 1 ∷ []) ≡ 43) × (plateNo (ridge 8 2 ++ 0 ∷ 2 ∷ 0 ∷ 0 ∷ 1 ∷ 1 ∷ []) ≡ 43)
+    × (plateNo (ridge 2 8 ++ 0 ∷ 2 ∷ 0 ∷ 0 ∷ 1 ∷ 0 ∷ []) ≡ 43)
+unfolding twoBytes every unlikeEarlier pointNo pointsNo questionsNo plateSheetNo among before insert outsideBelow outside nextMargin
+    placedFrom placed pairs sheetOf insideList outsidePairs sectionsFit ascending pairsRight sectionsNo plateNo
+not-in-order = (refl, refl, refl)
+
+-- WITHOUT A VALID CHOICE
+
+-- "label 4 by 2, three points at columns 0, 2 and 4 of one row" (document 02 (c)); and with a fourth elsewhere.
+abbrev pub crowded : List ℕ
+crowded = sheet 4 2 3 (at 1 0 3 (at 2 2 3 (at 3 4 3 [])))
+
+abbrev pub crowdedFour : List ℕ
+crowdedFour = sheet 4 2 4 (at 1 0 3 (at 2 2 3 (at 3 4 3 (at 4 12 8 []))))
+
+-- The sheet's own questions are answered yes; making and loading have the number 61, but 21 and 22 come first.
+pub record NoChoice (s : List ℕ) (room : ℕ) : Type 0 where
+  pub sheet : sheetNo s ≡ 0
+  pub making : makingNo s room workspaceCells ≡ 61
+  pub loading : loadNo s workspaceCells ≡ 61
+  pub output-first : makingNo s (pred room) (pred workspaceCells) ≡ 21
+  pub workspace-first : (makingNo s room (pred workspaceCells) ≡ 22) × (loadNo s (pred workspaceCells) ≡ 22)
+
+pub crowded-61 : NoChoice crowded 36 × NoChoice crowdedFour 44
+unfolding twoBytes every unlikeEarlier pointNo pointsNo questionsNo sheetNo askedNo choosingNo makingNo loadNo
+    conflictB apartB withinB validB weightBelow weight put bestFrom best
+crowded-61 = (
+  record { sheet = refl; making = refl; loading = refl; output-first = refl; workspace-first = (refl, refl) },
+  record { sheet = refl; making = refl; loading = refl; output-first = refl; workspace-first = (refl, refl) },
+)
+
+-- so no choice of theirs is valid
+pub crowded-none : (Feasible (pointsOf crowded) → ⊥) × (Feasible (pointsOf crowdedFour) → ⊥)
+crowded-none = (
+  making-61 crowded 36 workspaceCells .0 (crowded-61 .0 .making) .1,
+  making-61 crowdedFour 44 workspaceCells .0 (crowded-61 .1 .making) .1,
+)
+
+-- THE READER NEVER ANSWERS 61: its numbers are at most 44
+
+sections-most : (p : List ℕ) → sectionsNo p ≤ 44
+unfolding sectionsNo
+sections-most p =
+    ask-most (sectionsFit p) 44 41 _ (omega arith)
+    (ask-most (ascending (pointCount p) (insideList p)) 44 42 _ (omega arith)
+    (ask-most (pairsRight (pointsOf (sheetOf p)) (choiceOf (insideList p)) (outsidePairs p)) 44 43 _ (omega arith)
+    (ask-most (not (isClash (firstClash (pointsOf (sheetOf p)) (choiceOf (insideList p))))) 44 44 0 (omega arith) (omega arith))))
+
+pub plate-most : (p : List ℕ) → plateNo p ≤ 44
+unfolding plateNo
+plate-most p = then-most 44 (plateSheetNo p) (sectionsNo p) (omega (arith, plate-sheet-most p)) (sections-most p)
