@@ -22,14 +22,13 @@ use Rattle.clash.specs.declared.Clash.{Clash}
 use Rattle.clash.specs.declared.Clash.the-variants.{None, Between}
 use Rattle.clash.specs.FirstClash.{firstClash}
 use Rattle.plate_reader.specs.PlateQuestions.{insideCount}
-use Rattle.format.specs.MakingQuestions.{askedNo, makingNo, loadNo, workspaceAfter}
+use Rattle.format.specs.MakingQuestions.{askedNo, choosingNo, makingNo, loadNo, workspaceAfter, none-load}
 use Rattle.plate_maker.specs.Making.{makeOutcome, BestOutput, Making}
 use Rattle.plate_maker.specs.declared.MakeAnswer.{MakeAnswer}
 use Rattle.plate_maker.specs.declared.MakeAnswer.the-variants.{Made, Refused as RefusedMaking}
 use Rattle.desk.specs.Questions.{listCount, aboveBefore, entryNo, entriesNo}
 use Rattle.desk.specs.Desk.{noSheet, loadOutcome, heldOf, withHeld, loadedDesk, Loading, verdictBy, verdictAt}
 use Rattle.desk.specs.Blank.{blankPlate}
-use Rattle.desk.specs.DeskLaws.{none-load}
 use Rattle.desk.specs.Loaded.{plate-count}
 use Rattle.desk.specs.declared.Held.{Held}
 use Rattle.desk.specs.declared.Desk.{Desk}
@@ -109,7 +108,7 @@ module _ (s : List ℕ) (best : ℕ) (l : List ℕ) (x : Clash)
 
 -- the largest plate has room, so 21 never comes
 making-load : (s : List ℕ) (cells : ℕ) → makingNo s plateRoom cells ≡ loadNo s cells
-unfolding makingNo askedNo loadNo
+unfolding makingNo choosingNo askedNo loadNo
 making-load s cells =
     decide (eqb (sheetNo s) 0)
     (λ e.
@@ -139,11 +138,11 @@ module _ (s o w o′ w′ : List ℕ) (answer : MakeAnswer) (blank : o ≡ blank
   made-accepted r e = sym same-questions ∙ sym (λ i. m .outcome i .no) ∙ ap (λ a. makeOutcome a .no) e
 
   pub made-short : (r : ℕ) → answer ≡ Made r → length s ≤ sheetRoom
-  made-short r e = let a = none-load s (length w) .is (made-accepted r e) .0 in let l = a .long in let f = a .proper .few in omega arith
+  made-short r e = let a = none-load s (length w) .is (made-accepted r e) .0 .0 in let l = a .long in let f = a .proper .few in omega arith
 
   made-count : (r : ℕ) → answer ≡ Made r → insideCount o′ ≡ bestCount (pointsOf s)
   made-count r e =
-      let a = none-load s (length w) .is (made-accepted r e) .0 in
+      let a = none-load s (length w) .is (made-accepted r e) .0 .0 in
       let n : Making s o w (Made r) o′ w′ = rw e at m in
       let b : BestOutput s o o′ = n .output in
       ap insideCount (b .plate) ∙ plate-count s (b .choice) a _ ∙ b .best

@@ -49,7 +49,7 @@ deskAfter (calls andThen c) = deskOf (deskAfter calls) c
 
 -- DOCUMENT 01'S WORDS, from the calls alone
 
--- "A load is accepted if all its questions are answered yes."
+-- "A load is accepted if all its questions are answered yes", 61 among them (document 02 (c)).
 abbrev pub AcceptedLoad : List ℕ → List ℕ → Type 0
 AcceptedLoad s w = loadNo s (length w) ≡ 0
 

@@ -55,9 +55,12 @@ pub record LoadRight (calls : Calls) (s w : List ℕ) : Type 0 where
   -- "Every other load ... is refused", with the number of its first no,
   pub refused : (AcceptedLoad s w → ⊥)
       → loadOutcome (loadOf (deskAfter calls) s w .answer) ≡ record { refused = true; no = loadNo s (length w) }
-  -- and leaves the workspace
-  pub untouched : (AcceptedLoad s w → ⊥) → workspaceAfter (loadOutcome (loadOf (deskAfter calls) s w .answer) .no) w ≡ w
-  -- and the desk as they were.
+  -- and leaves the workspace as it was; but with 61, "unlike the others", the "whole workspace zero" (document 02 (c));
+  pub untouched : (AcceptedLoad s w → ⊥) → (loadNo s (length w) ≡ 61 → ⊥)
+      → workspaceAfter (loadOutcome (loadOf (deskAfter calls) s w .answer) .no) w ≡ w
+  pub zeroed-61 : loadNo s (length w) ≡ 61
+      → workspaceAfter (loadOutcome (loadOf (deskAfter calls) s w .answer) .no) w ≡ replicate (length w) 0
+  -- and in any case the desk as it was.
   pub same-desk : (AcceptedLoad s w → ⊥) → loadOf (deskAfter calls) s w .desk ≡ deskAfter calls
 
 -- What the verdict on the list l of the sheet s says.
@@ -113,5 +116,5 @@ pub record DemandThree (calls : Calls) : Type 0 where
   -- "At every point of the sequence that has a last accepted sheet S, the inside section of every plate made from S, count byte included,
   -- is a valid list of S whose count no valid list of S exceeds, and that count is the best count of S"
   pub plates : (s : List ℕ) → lastSheet calls ≡ some s → (p : List ℕ) → PlateMade s p → BestList s (sectionRead p)
-  -- There is such a plate: the claim never holds for want of one.
+  -- There is such a plate, since 61 is one of the load's questions: the claim never holds for want of one.
   pub some-plate : (s : List ℕ) → lastSheet calls ≡ some s → (p : List ℕ) × PlateMade s p

@@ -7,12 +7,12 @@ use mathlib.Core.Option.{Option, none, some}
 use Prim.Native.Nat.{ℕ, suc, _+_, _*_, _≤_, _<_}
 use lib.Dec.{eqb}
 use lib.ListN.{length, take, drop, replicate, length-append, length-replicate}
-use borrow.Author.Tests.{eqb-true, eqb-false, ne-eqb}
+use borrow.Author.Tests.{eqb-true, eqb-false}
 use native.Mathlib.Omega.{arith}
 use Rattle.format.specs.Sizes.{workspaceCells}
 use Rattle.labeling.specs.Points.{Choice}
 use Rattle.labeling.specs.Marks.{Valid}
-use Rattle.labeling.specs.Best.{weight, count, bestCount}
+use Rattle.labeling.specs.Best.{weight, count, Feasible, bestCount}
 use Rattle.labeling.specs.Agree.{valid-agree}
 use Rattle.labeling.specs.Greatest.{best-count-most, best-count-reached}
 use Rattle.labeling.specs.Decide.{not-both, decide}
@@ -26,7 +26,7 @@ use Rattle.clash.specs.declared.Clash.the-variants.{None, Between}
 use Rattle.clash.specs.FirstClash.{isClash, firstClash}
 use Rattle.clash.specs.ClashPixels.{FirstClashRight, first-clash-right}
 use Rattle.format.specs.InsideList.{choice-of-list, inside-ascending}
-use Rattle.format.specs.MakingQuestions.{makingNo, none-making, workspaceAfter, loadNo}
+use Rattle.format.specs.MakingQuestions.{makingNo, workspaceAfter, loadNo, none-making, none-load, zeroed-61, untouched}
 use Rattle.plate_maker.specs.Making.{makeOutcome, makeOutcomeOf, BestOutput, Making}
 use Rattle.plate_maker.specs.MakingLaws.{made-start}
 use Rattle.plate_maker.specs.declared.MakeAnswer.{MakeAnswer}
@@ -34,7 +34,7 @@ use Rattle.plate_maker.specs.declared.MakeAnswer.the-variants.{Made, Refused}
 use Rattle.desk.specs.Questions.{listCount, loadedListNo, markNo}
 use Rattle.desk.specs.Desk.{nothingHeld, heldOf, loadOutcome, verdictBy, verdictAt}
 use Rattle.desk.specs.Desk.{verdictOf, firstNo, markedDesk, verdictOutcome, markOutcome}
-use Rattle.desk.specs.DeskLaws.{load-yes, load-no, none-load, mark-yes, mark-no, none-mark}
+use Rattle.desk.specs.DeskLaws.{load-yes, load-no, mark-yes, mark-no, none-mark}
 use Rattle.desk.specs.Lists.{Listed, none-list, list-count, choice-listed}
 use Rattle.desk.specs.Calls.{load, mark, Calls, noCalls, _andThen_, deskAfter, accepts, loadedAfter, lastSheet, pointsIn}
 use Rattle.desk.specs.Calls.{markedLists, lastNumber, markNoAfter, MarkedAfter, choiceOfList, ValidList, PlateMade, sectionRead}
@@ -119,15 +119,16 @@ plate-made-best s p a m = by (m .answer) (m .made) (m .not-refused) (m .plate)
         let S = x .choice in
         rw (q, made-start m, section-read s S a) (choice-best s a S (x .valid) (x .best))
 
--- from every accepted sheet some plate is made: a best choice exists, and its plate with zeroed buffers meets the promise
-pub some-plate : (s : List ℕ) → Accepted s → (p : List ℕ) × PlateMade s p
-some-plate s a =
-    let S = best-count-reached (pointsOf s) (a .proper .label-width .0) (a .proper .rows) in
+-- from every accepted sheet that has a valid choice some plate is made: a best choice exists, and its plate with zeroed buffers meets the
+-- promise
+pub some-plate : (s : List ℕ) → Accepted s → Feasible (pointsOf s) → (p : List ℕ) × PlateMade s p
+some-plate s a f =
+    let S = best-count-reached (pointsOf s) (a .proper .label-width .0) f in
     let o : List ℕ = replicate (12 + 8 * pointCount s) 0 in
     let w : List ℕ = replicate workspaceCells 0 in
     let room : 12 + 8 * pointCount s ≤ length o = rw (length-replicate {A = ℕ} (12 + 8 * pointCount s) 0) (omega arith) in
     let cells : workspaceCells ≤ length w = rw (length-replicate {A = ℕ} workspaceCells 0) (omega arith) in
-    let z : makingNo s (length o) (length w) ≡ 0 = none-making s (length o) (length w) .of (a, (room, (cells, tt))) in (
+    let z : makingNo s (length o) (length w) ≡ 0 = none-making s (length o) (length w) .of ((a, (room, (cells, tt))), (f, tt)) in (
       _,
       record {
         output = o;
@@ -150,7 +151,7 @@ some-plate s a =
 -- What the desk holds of the last accepted sheet.
 SheetHeld : Desk → Option (List ℕ) → Type 0
 SheetHeld d none = d .held ≡ nothingHeld
-SheetHeld d (some s) = (d .held ≡ heldOf s (bestCount (pointsOf s))) × Accepted s
+SheetHeld d (some s) = (d .held ≡ heldOf s (bestCount (pointsOf s))) × Accepted s × Feasible (pointsOf s)
 
 abbrev isSome : Option (List ℕ) → Bool
 isSome none = false
@@ -202,8 +203,9 @@ tied-load calls s w t =
     (λ e.
     let z : loadNo s (length w) ≡ 0 = eqb-true _ _ e in
     let r = load-yes (deskAfter calls) s w z in
+    let a = none-load s (length w) .is z in
     record {
-      sheet = held-at (ap (λ r. r .desk) r) (ap (λ b. cond b (some s) (lastSheet calls)) e) (refl, none-load s (length w) .is z .0);
+      sheet = held-at (ap (λ r. r .desk) r) (ap (λ b. cond b (some s) (lastSheet calls)) e) (refl, a .0 .0, a .1 .0);
       loaded = rw e refl;
       last = ap (λ r. r .desk .last) r ∙ t .last;
       numbers = t .numbers;
@@ -258,9 +260,10 @@ tied (calls andThen mark l) = tied-mark calls l (tied calls)
 
 -- THE CLAUSES
 
-sheet-accepted : (calls : Calls) (s : List ℕ) → lastSheet calls ≡ some s → Accepted s
+-- the last accepted sheet is accepted, and has a valid choice
+sheet-accepted : (calls : Calls) (s : List ℕ) → lastSheet calls ≡ some s → Accepted s × Feasible (pointsOf s)
 unfolding SheetHeld
-sheet-accepted calls s e = (rw e at (tied calls .sheet)) .1
+sheet-accepted calls s e = let h = rw e at (tied calls .sheet) in (h .1, h .2)
 
 -- the desk's spare byte is 0 after any calls
 pub spare-zero : (calls : Calls) → deskAfter calls .held .spare ≡ 0
@@ -277,7 +280,11 @@ load-right calls s w = record {
   zeroed = λ z. ap (λ r. workspaceAfter (loadOutcome (r .answer) .no) w) (load-yes d s w z);
   keeps = λ z. ap (λ r. r .desk .last) (load-yes d s w z);
   refused = λ ne. ap (λ r. loadOutcome (r .answer)) (load-no d s w ne);
-  untouched = λ ne. ap (λ r. workspaceAfter (loadOutcome (r .answer) .no) w) (load-no d s w ne) ∙ rw (ne-eqb _ 0 ne);
+  untouched = λ ne other.
+      ap (λ r. workspaceAfter (loadOutcome (r .answer) .no) w) (load-no d s w ne) ∙ untouched (loadNo s (length w)) w ne other;
+  zeroed-61 = λ e.
+      let ne : loadNo s (length w) ≡ 0 → ⊥ = λ z. omega arith in
+      ap (λ r. workspaceAfter (loadOutcome (r .answer) .no) w) (load-no d s w ne) ∙ zeroed-61 (loadNo s (length w)) w e;
   same-desk = λ ne. ap (λ r. r .desk) (load-no d s w ne);
 }
   where
@@ -335,6 +342,6 @@ demand-three calls = record {
   numbers = tied calls .numbers;
   load = load-right calls;
   mark = mark-right calls;
-  plates = λ s e p m. plate-made-best s p (sheet-accepted calls s e) m;
-  some-plate = λ s e. some-plate s (sheet-accepted calls s e);
+  plates = λ s e p m. plate-made-best s p (sheet-accepted calls s e .0) m;
+  some-plate = λ s e. let a = sheet-accepted calls s e in some-plate s (a .0) (a .1);
 }

@@ -62,7 +62,7 @@ loadOutcome Accepted = record { refused = false; no = 0 }
 loadOutcome (Refused k) = record { refused = true; no = k }
 
 -- The desk d after a load of the bytes s: by cases on the answer. "A load replaces the sheet and its best count and keeps the last
--- number"; "buffers, workspace and desk stay untouched" on a refusal.
+-- number"; on a refusal, 61 included, the desk stays untouched.
 abbrev pub loadedDesk : LoadAnswer → Desk → List ℕ → Desk
 loadedDesk Accepted d s = withHeld d (heldOf s (bestCount (pointsOf s)))
 loadedDesk (Refused k) d s = d

@@ -1,19 +1,18 @@
--- The promises of load and mark in their cases, and that each leaves one result; and what a load and a mark that aren't refused have been
--- asked. Assumes nothing.
+-- The promises of load and mark in their cases, and that each leaves one result; and what a mark that isn't refused has been asked.
+-- Assumes nothing.
 use mathlib.Core.Path.{_≡_, sym, ap, _∙_}
 use mathlib.Core.Bool.{Bool, true}
 use mathlib.Core.Logic.{_↔_}
 use mathlib.Core.List.{List}
-use Prim.Native.Nat.{ℕ, _≤_, _<_}
+use Prim.Native.Nat.{ℕ, _<_}
 use lib.ListN.{length}
 use borrow.Author.Tests.{eq-eqb, ne-eqb}
 use native.Mathlib.Omega.{arith}
 use Rattle.labeling.specs.Decide.{same, dec-lt}
-use Rattle.format.specs.Sizes.{workspaceCells}
 use Rattle.format.specs.Answers.{outcomeOf}
-use Rattle.format.specs.Accepted.{Accepted, NoneOf, none-ask, none-left, none-sheet}
+use Rattle.format.specs.Accepted.{NoneOf, none-ask, none-left}
 use Rattle.format.specs.Asking.{none-then}
-use Rattle.format.specs.MakingQuestions.{none-workspace, workspaceAfter, loadNo}
+use Rattle.format.specs.MakingQuestions.{workspaceAfter, loadNo}
 use Rattle.desk.specs.Questions.{nextNumber, loadedListNo, markNo}
 use Rattle.desk.specs.Desk.{loadOutcome, load-outcome-fixes, Loading, loadedDesk, loadResult}
 use Rattle.desk.specs.Desk.{loadAnswerOf, loadOf, verdictOf, firstNo, markOutcome, markOutcomeOf}
@@ -54,11 +53,6 @@ loading-exactly d s w w′ r = (
     workspace = e .1;
   },
 )
-
--- a load is accepted exactly if its sheet is and the workspace is large enough
-pub none-load : (s : List ℕ) (cells : ℕ) → NoneOf (loadNo s cells) (Accepted s × ((workspaceCells ≤ cells) × Unit {0}))
-unfolding loadNo
-none-load s cells = none-then (none-sheet s) (none-workspace cells)
 
 -- MARK
 

@@ -3,10 +3,11 @@ pub mod Questions
 pub mod Desk
 pub mod Calls
 pub mod DemandThree
--- THEOREMS: what a list without a no is; the one result that each promise leaves; demand 3.
+-- THEOREMS: what a list without a no is; the one result that each promise leaves; demand 3; a load with 61.
 pub mod Lists
 pub mod DeskLaws
 pub mod DemandThreeProof
+pub mod DeskCases
 -- FOR PROOFS: the buffer that a load lends, and what the desk's bytes say of the sheet.
 pub mod Blank
 pub mod Loaded
