@@ -4,7 +4,7 @@ use mathlib.Core.List.{List, _++_}
 use Prim.Native.Nat.{ℕ}
 use Rattle.format.specs.Sheet.{pointCount}
 use Rattle.clash.specs.declared.ClashKind.{ClashKind}
-use Rattle.clash.specs.declared.ClashKind.the-variants.{Labels, LabelAndLeader, Overhang}
+use Rattle.clash.specs.declared.ClashKind.the-variants.{Labels, LabelAndLeader, Overhang, TwoLeaders}
 use Rattle.desk.specs.declared.Desk.{Desk}
 use Rattle.desk.specs.declared.LoadAnswer.{LoadAnswer}
 use Rattle.desk.specs.declared.LoadAnswer.the-variants.{Accepted, Refused}
@@ -27,11 +27,13 @@ abbrev pub loadLine : LoadAnswer → Desk → List ℕ
 loadLine Accepted d = loadedLine d
 loadLine (Refused k) d = refusalLine k
 
--- "whether two labels met or a label met a leader"; an overhang "gets its own kind" (document 02 (a))
+-- "whether two labels met or a label met a leader"; an overhang "gets its own kind" (document 02 (a)); "a mark can name two leaders as its
+-- clash" (document 02 (c))
 abbrev pub kindWord : ClashKind → List ℕ
 kindWord Labels = ascii " labels"
 kindWord LabelAndLeader = ascii " leader"
 kindWord Overhang = ascii " overhang"
+kindWord TwoLeaders = ascii " leaders"
 
 -- "valid, with the list's count and its shortfall"
 unfoldable pub validText : ℕ → ℕ → List ℕ

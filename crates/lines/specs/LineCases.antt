@@ -8,7 +8,7 @@ use Rattle.labeling.specs.Decide.{and-left, and-right}
 use Rattle.format.specs.Bytes.{sameBytes, dec-bytes}
 use Rattle.format.specs.Padded.{padded}
 use Rattle.format.specs.Sheet.{twoBytes}
-use Rattle.clash.specs.declared.ClashKind.the-variants.{Labels, LabelAndLeader, Overhang}
+use Rattle.clash.specs.declared.ClashKind.the-variants.{Labels, LabelAndLeader, Overhang, TwoLeaders}
 use Rattle.desk.specs.Desk.{heldOf, withHeld, fresh}
 use Rattle.desk.specs.declared.Desk.{Desk}
 use Rattle.desk.specs.declared.LoadAnswer.the-variants.{Accepted, Refused}
@@ -91,6 +91,7 @@ pub mark-lines :
     (markLine (Marked 3 (Valid 0 2)) ≡ ascii "3 valid 0 2\n") ×
     (markLine (Marked 120 (Clash 9 31 Labels)) ≡ ascii "120 clash 9 31 labels\n") ×
     (markLine (Marked 4 (Clash 0 0 Overhang)) ≡ ascii "4 clash 0 0 overhang\n") ×
+    (markLine (Marked 5 (Clash 0 1 TwoLeaders)) ≡ ascii "5 clash 0 1 leaders\n") ×
     (markLine (RefusedMark 51) ≡ ascii "refused 51\n")
 unfolding decimalIn decimal spaced refusalLine validText clashText markedLine
-mark-lines = (refl, refl, refl, refl, refl, refl)
+mark-lines = (refl, refl, refl, refl, refl, refl, refl)

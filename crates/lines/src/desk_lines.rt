@@ -41,6 +41,7 @@ fn put_kind(text: &mut [u8], at: usize, kind: ClashKind) -> usize
         ClashKind::Labels => put_word(text, at, b" labels"),
         ClashKind::LabelAndLeader => put_word(text, at, b" leader"),
         ClashKind::Overhang => put_word(text, at, b" overhang"),
+        ClashKind::TwoLeaders => put_word(text, at, b" leaders"),
     }
 }
 

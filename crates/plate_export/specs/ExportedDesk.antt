@@ -3,7 +3,7 @@ use mathlib.Core.Path.{_≡_, sym, ap, _∙_}
 use mathlib.Core.List.{List}
 use Prim.Native.Nat.{ℕ}
 use Rattle.clash.specs.declared.ClashKind.{ClashKind}
-use Rattle.clash.specs.declared.ClashKind.the-variants.{Labels, LabelAndLeader, Overhang}
+use Rattle.clash.specs.declared.ClashKind.the-variants.{Labels, LabelAndLeader, Overhang, TwoLeaders}
 use Rattle.format.specs.MakingQuestions.{workspaceAfter}
 use Rattle.desk.specs.Desk.{loadOutcome, Loading, loadOf, Marking, markOf}
 use Rattle.desk.specs.DeskLaws.{loading-exactly, marking-exactly}
@@ -30,6 +30,7 @@ abbrev pub kindNumber : ClashKind → ℕ
 kindNumber Labels = 2
 kindNumber LabelAndLeader = 3
 kindNumber Overhang = 4
+kindNumber TwoLeaders = 5
 
 -- A list with this number and verdict.
 abbrev pub verdictReply : Desk → ℕ → Verdict → DeskMarkResult

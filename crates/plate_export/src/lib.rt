@@ -103,7 +103,7 @@ pub struct DeskLoadResult {
 
 // What desk_mark answers: the desk after it, and the number of the first no, 0 where the list is marked. Then the list's number, and the
 // verdict: 1 for valid, with count and shortfall; 2 for a clash of two labels, 3 for one of a label and a leader, 4 for a label that leaves
-// the map, with the two positions. All else is 0.
+// the map, 5 for a clash of two leaders, with the two positions. All else is 0.
 #[repr(C)]
 pub struct DeskMarkResult {
     pub desk: Desk,
@@ -124,6 +124,7 @@ fn kind_number(kind: ClashKind) -> u32
         ClashKind::Labels => 2,
         ClashKind::LabelAndLeader => 3,
         ClashKind::Overhang => 4,
+        ClashKind::TwoLeaders => 5,
     }
 }
 

@@ -1,20 +1,23 @@
 -- Where one choice is best, the printed text is its listing; so P1's is what document 01 says, and P9's has the margin columns of document
--- 02 (b). Assumes nothing.
-use mathlib.Core.Path.{_≡_, ap, _∙_}
+-- 02 (b). Where no choice is valid, it is a refusal's. Assumes nothing.
+use mathlib.Core.Path.{_≡_, refl, ap, _∙_}
 use mathlib.Core.List.{List}
 use Prim.Native.Nat.{ℕ, _≤_}
 use native.Mathlib.Omega.{arith}
 use Rattle.labeling.specs.Points.{Choice}
-use Rattle.labeling.specs.Best.{weight, oneEach, count, bestCount, Best, OnlyBest}
+use Rattle.labeling.specs.Conflicts.{conflictB, every, apartB, withinB, validB}
+use Rattle.labeling.specs.Best.{weightBelow, weight, oneEach, count, put, bestFrom, best, bestCount, Best, OnlyBest}
 use Rattle.labeling.specs.Greatest.{best-count-most}
 use Rattle.format.specs.Sizes.{plateRoom, workspaceCells}
-use Rattle.format.specs.Sheet.{pointCount, pointsOf, sheetNo}
+use Rattle.format.specs.Sheet.{twoBytes, pointCount, pointsOf, unlikeEarlier, pointNo, pointsNo, questionsNo, sheetNo}
 use Rattle.format.specs.Accepted.{Accepted, accepted}
-use Rattle.format.specs.MakingQuestions.{makingNo, none-making}
+use Rattle.format.specs.MakingQuestions.{askedNo, choosingNo, makingNo, none-making}
 use Rattle.format.specs.Plate.{plateOf}
 use Rattle.format.specs.PlateAgree.{plate-agree}
 use Rattle.plate_reader.specs.Cases.{sheet1, sheetOfFive, stacked, all-right}
-use Rattle.lines.specs.Text.{ascii}
+use Rattle.plate_reader.specs.Refusals.{crowded}
+use Rattle.lines.specs.Text.{ascii, decimalIn, decimal, spaced}
+use Rattle.lines.specs.DeskLines.{refusalLine}
 use Rattle.lines.specs.Listing.{listingOf}
 use Rattle.lines.specs.LineCases.{all-listed}
 use Rattle.print_plate.specs.PrintedText.{BestListing, PrintedText}
@@ -26,7 +29,7 @@ module _ (s : List ℕ) (S : Choice) (ok : sheetNo s ≡ 0) (only : OnlyBest (po
   made : makingNo s plateRoom workspaceCells ≡ 0
   made =
       let few : pointCount s ≤ 32 = right .proper .few in
-      none-making s plateRoom workspaceCells .of (right, (omega arith, (omega arith, tt)))
+      none-making s plateRoom workspaceCells .of ((right, (omega arith, (omega arith, tt))), ((S, only .best .valid), tt))
 
   listed-best : (text : List ℕ) (b : BestListing s text) → Best (pointsOf s) oneEach (b .choice)
   unfolding count
@@ -59,3 +62,13 @@ pub p9-printed : (text : List ℕ) → PrintedText (stacked 6) text → text ≡
 p9-printed text p =
     let c = all-right .1 .1 .0 in
     only-printed (stacked 6) _ (c .accepted) (c .expected) text p ∙ ap listingOf (c .plate) ∙ all-listed .1 .1 .0
+
+-- "label 4 by 2, three points at columns 0, 2 and 4 of one row" (document 02 (c)): no choice is valid.
+crowded-no : makingNo crowded plateRoom workspaceCells ≡ 61
+unfolding twoBytes every unlikeEarlier pointNo pointsNo questionsNo sheetNo askedNo choosingNo makingNo
+    conflictB apartB withinB validB weightBelow weight put bestFrom best
+crowded-no = refl
+
+pub crowded-printed : (text : List ℕ) → PrintedText crowded text → text ≡ ascii "refused 61\n"
+unfolding decimalIn decimal spaced refusalLine
+crowded-printed text p = rw crowded-no at p

@@ -13,14 +13,16 @@ use Rattle.format.specs.Sizes.{sheetRoom, plateRoom, workspaceCells}
 use Rattle.format.specs.Sheet.{pointCount, sheetNo}
 use Rattle.format.specs.Accepted.{accepted}
 use Rattle.format.specs.Asking.{then-first}
-use Rattle.format.specs.MakingQuestions.{askedNo, makingNo}
+use Rattle.format.specs.MakingQuestions.{askedNo, outputFits, choiceNo, choosingNo, makingNo}
 use Rattle.format.specs.Start.{start-decides}
 use Rattle.print_plate.specs.PrintedText.{TextBy, PrintedText}
 
 -- a sheet that is refused is refused in making
 refused-making : (s : List ℕ) → (sheetNo s ≡ 0 → ⊥) → makingNo s plateRoom workspaceCells ≡ sheetNo s
-unfolding makingNo askedNo
-refused-making s some = sym (then-first (sheetNo s) _ (sheetNo s) some refl)
+unfolding makingNo choosingNo askedNo
+refused-making s some =
+    let e : sheetNo s ≡ askedNo s (outputFits s plateRoom) workspaceCells = then-first (sheetNo s) _ (sheetNo s) some refl in
+    sym (then-first (askedNo s (outputFits s plateRoom) workspaceCells) (choiceNo s) (sheetNo s) (λ z. some (e ∙ z)) e)
 
 -- the text of a refusal has nothing of the bytes but the number
 refused-text : (k : ℕ) (s t text : List ℕ) → (k ≡ 0 → ⊥) → TextBy k s text → TextBy k t text
