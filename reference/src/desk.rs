@@ -1,7 +1,7 @@
 //! The marking desk.
 
 use crate::pixels::{first_clash, ClashKind};
-use crate::search::best_count;
+use crate::search::best_choice;
 use crate::sheet::{Choice, Sheet};
 use crate::WORKSPACE_NUMBERS;
 
@@ -54,7 +54,8 @@ impl Desk {
         }
     }
 
-    /// Loads a sheet: 0 if it is accepted, else the number of the first no. The last number stays.
+    /// Loads a sheet: 0 if it is accepted, else the number of the first no. 61 comes last, exactly
+    /// if no choice of the sheet is valid. The last number stays, and on a no the sheet too.
     pub fn load(&mut self, sheet: &[u8], workspace_len: usize) -> u8 {
         let sheet = match Sheet::read(sheet) {
             Ok(sheet) => sheet,
@@ -63,8 +64,10 @@ impl Desk {
         if workspace_len < WORKSPACE_NUMBERS {
             return 22;
         }
-        let best = best_count(&sheet);
-        self.loaded = Some((sheet, best));
+        let Some(best) = best_choice(&sheet) else {
+            return 61;
+        };
+        self.loaded = Some((sheet, best.0.count_ones() as usize));
         0
     }
 

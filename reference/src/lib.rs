@@ -22,7 +22,7 @@ pub mod sheet;
 pub use desk::{Desk, Marked, Verdict};
 pub use margin::{inside_positions, margin_columns, margin_width, outside_positions};
 pub use pixels::{first_clash, valid, ClashKind};
-pub use plate::{listing, making_no, plate_bytes, read_plate, PlateReading};
+pub use plate::{listing, making_no, plate_bytes, read_plate, zeroes_workspace, PlateReading};
 pub use script::run_script;
 pub use search::{best_choice, best_count};
 pub use sheet::{check_sheet, Choice, Point, Sheet};

@@ -3,8 +3,7 @@
 use std::io::{self, Read, Write};
 use std::process::ExitCode;
 
-use reference::{best_choice, best_count, check_sheet, listing, read_plate, run_script};
-use reference::{Choice, Sheet};
+use reference::{best_choice, check_sheet, listing, read_plate, run_script, Sheet};
 
 const USAGE: &str = "usage: reference COMMAND < BYTES
 check   a sheet: `accepted` or `refused K`
@@ -46,18 +45,17 @@ fn check(sheet: &[u8]) -> String {
 }
 
 fn best(sheet: &[u8]) -> String {
-    match Sheet::read(sheet) {
-        Ok(sheet) => format!("{}\n", best_count(&sheet)),
+    match Sheet::read(sheet).map(|sheet| best_choice(&sheet)) {
+        Ok(Some(choice)) => format!("{}\n", choice.0.count_ones()),
+        Ok(None) => "refused 61\n".to_string(),
         Err(number) => format!("refused {number}\n"),
     }
 }
 
 fn list(bytes: &[u8]) -> String {
-    let choice = match Sheet::read(bytes) {
-        Ok(sheet) => best_choice(&sheet),
-        Err(_) => Choice::default(),
-    };
-    listing(bytes, choice)
+    let best = Sheet::read(bytes).map(|sheet| best_choice(&sheet));
+    // Without a best choice the sheet is refused, whatever the choice is.
+    listing(bytes, best.ok().flatten().unwrap_or_default())
 }
 
 fn read(plate: &[u8]) -> String {

@@ -2,6 +2,7 @@
 
 use crate::margin::{inside_positions, margin_columns, margin_width, outside_pairs};
 use crate::pixels::valid;
+use crate::search::best_choice;
 use crate::sheet::{Choice, Sheet};
 use crate::WORKSPACE_NUMBERS;
 
@@ -86,7 +87,9 @@ fn split_sections(sections: &[u8]) -> Option<(&[u8], &[u8])> {
     Some((inside, pairs))
 }
 
-/// The questions of a making: 0 if a plate is made, else the number of the first no.
+/// The questions of a making: 0 if a plate is made, else the number of the first no. 61 comes last,
+/// exactly if no choice of the sheet is valid. On a no the output is untouched and the written
+/// length is 0.
 pub fn making_no(sheet: &[u8], output_len: usize, workspace_len: usize) -> u8 {
     let sheet = match Sheet::read(sheet) {
         Ok(sheet) => sheet,
@@ -98,16 +101,30 @@ pub fn making_no(sheet: &[u8], output_len: usize, workspace_len: usize) -> u8 {
     if workspace_len < WORKSPACE_NUMBERS {
         return 22;
     }
+    if best_choice(&sheet).is_none() {
+        return 61;
+    }
     0
 }
 
-/// What the printing program writes for these sheet bytes if it makes the plate of this choice.
-/// Every line ends with a newline.
+/// Does a making or a load with this answer leave the whole workspace zero, every number lent? It
+/// does if it isn't refused and if it is refused with 61. On every other no the workspace is
+/// untouched.
+pub fn zeroes_workspace(number: u8) -> bool {
+    matches!(number, 0 | 61)
+}
+
+/// What the printing program writes for these sheet bytes if it makes the plate of this choice. The
+/// program has output and workspace enough; a sheet without a valid choice is refused whatever the
+/// choice is. Every line ends with a newline.
 pub fn listing(sheet: &[u8], choice: Choice) -> String {
     let sheet = match Sheet::read(sheet) {
         Ok(sheet) => sheet,
         Err(number) => return format!("refused {number}\n"),
     };
+    if best_choice(&sheet).is_none() {
+        return "refused 61\n".to_string();
+    }
     let mut text = format!(
         "plate {} {} {}\n",
         sheet.points().len(),

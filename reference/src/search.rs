@@ -9,8 +9,9 @@
 //! Only pixels from column 0 on are used for forcing. They depend on a point's state alone: an
 //! outside point's outer label has negative columns only, and its leader covers column 0 to the
 //! point's column whatever its margin column is. What is found that way is a necessary condition
-//! for a valid choice, so no valid choice has more points inside than the choice that the search
-//! finds; when the marking in full finds that choice valid, it is a best one.
+//! for a valid choice. So if no choice meets it, no choice is valid. And no valid choice has more
+//! points inside than the choice that the search finds; when the marking in full finds that choice
+//! valid, it is a best one.
 
 use std::collections::HashMap;
 
@@ -24,29 +25,29 @@ pub const TRY_ALL_POINTS: usize = 12;
 const OUTSIDE: usize = 0;
 const INSIDE: usize = 1;
 
-/// The greatest inside count over all valid choices.
+/// The greatest inside count over all valid choices, or 0 if no choice is valid.
 pub fn best_count(sheet: &Sheet) -> usize {
-    best_choice(sheet).0.count_ones() as usize
+    best_choice(sheet).map_or(0, |choice| choice.0.count_ones() as usize)
 }
 
-/// A valid choice with the best count. It has no bits outside the sheet's positions.
+/// A valid choice with the best count, or nothing if no choice is valid. It has no bits outside the
+/// sheet's positions.
 ///
 /// Panics if the search's choice isn't valid: it would then be no more than a bound.
-pub fn best_choice(sheet: &Sheet) -> Choice {
+pub fn best_choice(sheet: &Sheet) -> Option<Choice> {
     if sheet.points().len() <= TRY_ALL_POINTS {
         return try_all(sheet);
     }
-    let choice = search_best(sheet);
+    let choice = search_best(sheet)?;
     let valid = valid(sheet, choice);
     assert!(valid, "the reference's search found a choice with a clash");
-    choice
+    Some(choice)
 }
 
-/// Tries every choice, from the greatest inside count down, and gives the first valid one.
-/// Choices with a clash on the map are passed over by the table; all others are marked in full.
-///
-/// Panics if there is none: the choice with nothing inside is always valid.
-pub fn try_all(sheet: &Sheet) -> Choice {
+/// Tries every choice, from the greatest inside count down, and gives the first valid one, or
+/// nothing if none is valid. Choices with a clash on the map are passed over by the table; all
+/// others are marked in full.
+pub fn try_all(sheet: &Sheet) -> Option<Choice> {
     let table = Table::of(sheet);
     let n = sheet.points().len();
     for count in (0..=n).rev() {
@@ -57,11 +58,11 @@ pub fn try_all(sheet: &Sheet) -> Choice {
             }
             found.is_some()
         });
-        if let Some(choice) = found {
-            return choice;
+        if found.is_some() {
+            return found;
         }
     }
-    panic!("the reference found every choice to clash");
+    None
 }
 
 /// Hands every choice of `count` positions below n to `stop`, until `stop` says yes.
@@ -84,18 +85,16 @@ pub fn each_choice(n: usize, count: usize, stop: &mut dyn FnMut(Choice) -> bool)
     extend(n.min(32), 0, count, 0, stop);
 }
 
-/// The exact search, over the map's pixels. It has no limit: it ends with a choice.
-///
-/// Panics if every choice has a clash on the map: the choice with nothing inside is always valid.
-pub fn search_best(sheet: &Sheet) -> Choice {
+/// The exact search, over the map's pixels. It has no limit: it ends with a choice, or with nothing
+/// if every choice has a clash on the map.
+pub fn search_best(sheet: &Sheet) -> Option<Choice> {
     let table = Table::of(sheet);
-    let settled = table.settle();
-    let (undecided, inside) = settled.expect("the reference's search found a point with no state");
+    let (undecided, inside) = table.settle()?;
     let mut search = Search {
         table: &table,
         known: HashMap::new(),
     };
-    Choice(inside | search.best(undecided))
+    Some(Choice(inside | search.best(undecided)))
 }
 
 /// States of several points: the points that are inside and the points that are outside.

@@ -2,8 +2,8 @@
 
 use reference::random::sheet_bytes;
 use reference::{
-    check_sheet, making_no, plate_bytes, read_plate, Choice, Desk, Sheet, Verdict,
-    WORKSPACE_NUMBERS,
+    check_sheet, making_no, plate_bytes, read_plate, zeroes_workspace, Choice, Desk, Sheet,
+    Verdict, WORKSPACE_NUMBERS,
 };
 
 /// P1's sheet.
@@ -147,6 +147,14 @@ fn questions_21_and_22_of_a_making() {
     let empty = sheet_bytes((20, 12), (4, 2), &[]);
     assert_eq!(making_no(&empty, 12, WORKSPACE_NUMBERS), 0);
     assert_eq!(making_no(&empty, 11, WORKSPACE_NUMBERS), 21);
+}
+
+#[test]
+fn a_making_or_a_load_zeroes_the_workspace_if_it_is_accepted_or_answers_61() {
+    let zeroing: Vec<u8> = (0..=255)
+        .filter(|&number| zeroes_workspace(number))
+        .collect();
+    assert_eq!(zeroing, [0, 61]);
 }
 
 /// The number for P1 followed by these bytes.

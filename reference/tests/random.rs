@@ -149,6 +149,13 @@ fn runs_agree_with_sets_of_pixels() {
     assert!(seen.iter().all(|&times| times > 200), "{seen:?}");
 }
 
+/// The inside count of a choice found, if one was. It has to be valid by sets of pixels.
+fn count_of(sheet: &Sheet, found: Option<Choice>) -> Option<usize> {
+    let choice = found?;
+    assert_eq!(clash_by_pixels(sheet, choice), None);
+    Some(choice.0.count_ones() as usize)
+}
+
 #[test]
 fn best_count_agrees_with_sets_of_pixels_over_all_choices() {
     let mut random = Random::new(2);
@@ -160,7 +167,8 @@ fn best_count_agrees_with_sets_of_pixels_over_all_choices() {
             .filter(|&choice| clash_by_pixels(&sheet, choice).is_none())
             .map(|choice| choice.0.count_ones() as usize)
             .max();
-        assert_eq!(Some(best_count(&sheet)), best);
+        assert_eq!(count_of(&sheet, best_choice(&sheet)), best);
+        assert_eq!(best_count(&sheet), best.unwrap_or(0));
     }
 }
 
@@ -175,10 +183,8 @@ fn best_count_agrees_with_marking_every_choice() {
             .filter(|&choice| valid(&sheet, choice))
             .map(|choice| choice.0.count_ones() as usize)
             .max();
-        assert_eq!(Some(best_count(&sheet)), best);
-        let searched = search_best(&sheet);
-        assert!(valid(&sheet, searched));
-        assert_eq!(Some(searched.0.count_ones() as usize), best);
+        assert_eq!(count_of(&sheet, best_choice(&sheet)), best);
+        assert_eq!(count_of(&sheet, search_best(&sheet)), best);
     }
 }
 
@@ -189,11 +195,8 @@ fn the_search_agrees_with_trying_every_choice() {
         // Mostly small sheets, and some on which trying every choice takes longer.
         let most_points = if round % 20 == 0 { 17 } else { 12 };
         let sheet = small_dense(&mut random, most_points, 30, 8);
-        let searched = search_best(&sheet);
-        let tried = try_all(&sheet);
-        assert!(valid(&sheet, searched));
-        assert!(valid(&sheet, tried));
-        assert_eq!(searched.0.count_ones(), tried.0.count_ones());
+        let searched = count_of(&sheet, search_best(&sheet));
+        assert_eq!(searched, count_of(&sheet, try_all(&sheet)));
     }
 }
 
@@ -250,13 +253,13 @@ impl Conflicts {
     }
 }
 
-/// The greatest inside count of all valid choices: every one is tried. A choice that would be
-/// the best so far is marked in full, margin included.
-fn best_of_every_choice(sheet: &Sheet) -> u32 {
+/// The greatest inside count of all valid choices, or nothing if none is valid: every one is tried.
+/// A choice that would be the best so far is marked in full, margin included.
+fn best_of_every_choice(sheet: &Sheet) -> Option<usize> {
     let conflicts = Conflicts::of(sheet);
     let mut best = None;
     for inside in 0..1u32 << sheet.points().len() {
-        let count = Some(inside.count_ones());
+        let count = Some(inside.count_ones() as usize);
         if count > best
             && conflicts.none_among(inside)
             && clash_by_pixels(sheet, Choice(inside)).is_none()
@@ -264,7 +267,7 @@ fn best_of_every_choice(sheet: &Sheet) -> u32 {
             best = count;
         }
     }
-    best.expect("nothing inside is always valid")
+    best
 }
 
 /// A crowded sheet of n points.
@@ -291,11 +294,11 @@ fn the_search_agrees_with_every_choice_up_to_20_points() {
             let sheet = crowded(&mut random, n);
             assert_eq!(sheet.points().len(), usize::from(n));
             let searched = search_best(&sheet);
-            let count = searched.0.count_ones();
-            assert_eq!(clash_by_pixels(&sheet, searched), None);
+            let count = count_of(&sheet, searched);
             assert_eq!(count, best_of_every_choice(&sheet));
             assert_eq!(best_choice(&sheet), searched);
-            let something_to_do = (2..u32::from(n) - 1).contains(&count);
+            let something_to_do =
+                count.is_some_and(|count| (2..usize::from(n) - 1).contains(&count));
             some_inside += u32::from(something_to_do);
             let overhangs = Conflicts::of(&sheet).overhangs != 0;
             some_overhang += u32::from(something_to_do && overhangs);
@@ -315,7 +318,7 @@ fn large_sheets_have_valid_best_choices_that_no_neighbour_beats() {
         let label = (random.between(1, 30), random.between(1, 30));
         let bytes = random_sheet(&mut random, (side, side), label, 32);
         let sheet = some_with_room(&mut random, Sheet::read(&bytes).unwrap());
-        let best = best_choice(&sheet);
+        let best = best_choice(&sheet).unwrap();
         assert!(valid(&sheet, best));
         // Putting up to two more points inside clashes.
         for a in 0..32 {

@@ -37,7 +37,8 @@ fn p1_like_with_room(points: &[(u16, u16)]) -> Sheet {
     Sheet::read(&bytes_on((24, 14), (4, 2), points)).unwrap()
 }
 
-/// All valid choices of the best count. Both ways of finding it have to agree with them.
+/// All valid choices of the best count; none if no choice is valid. Both ways of finding one have to
+/// agree with them.
 fn best_choices(sheet: &Sheet) -> Vec<Choice> {
     let n = sheet.points().len();
     for count in (0..=n).rev() {
@@ -50,13 +51,22 @@ fn best_choices(sheet: &Sheet) -> Vec<Choice> {
         });
         if !found.is_empty() {
             assert_eq!(best_count(sheet), count);
-            assert!(found.contains(&best_choice(sheet)));
-            assert!(found.contains(&try_all(sheet)));
-            assert!(found.contains(&search_best(sheet)));
+            assert!(found.contains(&the_best(sheet)));
+            assert!(found.contains(&try_all(sheet).unwrap()));
+            assert!(found.contains(&search_best(sheet).unwrap()));
             return found;
         }
     }
-    panic!("nothing inside has to be valid");
+    assert_eq!(best_count(sheet), 0);
+    assert_eq!(best_choice(sheet), None);
+    assert_eq!(try_all(sheet), None);
+    assert_eq!(search_best(sheet), None);
+    Vec::new()
+}
+
+/// The best choice of a sheet that has a valid one.
+fn the_best(sheet: &Sheet) -> Choice {
+    best_choice(sheet).unwrap()
 }
 
 const P1: [u8; 28] = [
@@ -70,14 +80,14 @@ fn p1_bytes_plate_and_listing() {
     assert_eq!(sheet_bytes((20, 10), (4, 2), &points), P1);
     let sheet = Sheet::read(&P1).unwrap();
     assert_eq!(best_choices(&sheet), [Choice::of(&[1, 2])]);
-    let plate = plate_bytes(&sheet, best_choice(&sheet));
+    let plate = plate_bytes(&sheet, the_best(&sheet));
     assert_eq!(plate[..28], P1);
     assert_eq!(plate[28..], [0x02, 0x01, 0x02, 0x01, 0x00, 0x00]);
     let reading = read_plate(&plate);
     assert_eq!((reading.number, reading.inside), (0, &[1, 2][..]));
     assert_eq!(reading.inside.as_ptr(), plate[29..].as_ptr());
     assert_eq!(
-        listing(&P1, best_choice(&sheet)),
+        listing(&P1, the_best(&sheet)),
         "plate 3 2 1\n17 out 0\n18 in\n19 in\n"
     );
 }
@@ -283,7 +293,7 @@ fn margin_columns_used_by_a_listing() {
     let sheet = Sheet::read(&bytes).unwrap();
     assert_eq!(best_choices(&sheet), [Choice::of(&[0, 1])]);
     assert_eq!(
-        listing(&bytes, best_choice(&sheet)),
+        listing(&bytes, the_best(&sheet)),
         "plate 5 2 2\n1 in\n2 in\n3 out 0\n4 out 1\n5 out 0\n"
     );
     // Nothing inside: rows 6, 5, 4, 2 and 0, each at most 3 below the one above.
@@ -299,7 +309,7 @@ fn p9_listing(third_row: u16) -> String {
     let bytes = bytes_of((4, 3), &[(18, 10), (18, 9), (18, third_row)]);
     let sheet = Sheet::read(&bytes).unwrap();
     assert_eq!(best_choices(&sheet), [Choice::default()]);
-    listing(&bytes, best_choice(&sheet))
+    listing(&bytes, the_best(&sheet))
 }
 
 #[test]
@@ -316,7 +326,7 @@ fn p10_no_points() {
     let bytes = bytes_of((4, 2), &[]);
     let sheet = Sheet::read(&bytes).unwrap();
     assert_eq!(best_count(&sheet), 0);
-    let plate = plate_bytes(&sheet, best_choice(&sheet));
+    let plate = plate_bytes(&sheet, the_best(&sheet));
     assert_eq!(plate, [&bytes[..], &[0, 0]].concat());
     let reading = read_plate(&plate);
     assert_eq!((reading.number, reading.inside), (0, &[][..]));
@@ -416,13 +426,10 @@ fn an_overhanging_point_can_only_be_outside() {
     let sheet = Sheet::read(&bytes).unwrap();
     assert_eq!(best_choices(&sheet), [Choice::default()]);
     assert_eq!(best_count(&sheet), 0);
-    let plate = plate_bytes(&sheet, best_choice(&sheet));
+    let plate = plate_bytes(&sheet, the_best(&sheet));
     assert_eq!(plate, [&bytes[..], &[0, 1, 0, 0]].concat());
     assert_eq!(read_plate(&plate).number, 0);
-    assert_eq!(
-        listing(&bytes, best_choice(&sheet)),
-        "plate 1 0 1\n17 out 0\n"
-    );
+    assert_eq!(listing(&bytes, the_best(&sheet)), "plate 1 0 1\n17 out 0\n");
     // Its plate with the point inside.
     let overhanging = [&bytes[..], &[1, 0, 0]].concat();
     assert_eq!(plate_bytes(&sheet, Choice::of(&[0])), overhanging);
