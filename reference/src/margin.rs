@@ -1,4 +1,6 @@
-//! The margin rule: which margin column each outside point takes (documents 01 and 02 (b)).
+//! The margin rule: which margin column each outside point takes (documents 01 and 02 (b) and (c)).
+
+use std::cmp::Reverse;
 
 use crate::sheet::{Choice, Sheet};
 
@@ -9,25 +11,26 @@ pub fn inside_positions(sheet: &Sheet, choice: Choice) -> Vec<usize> {
         .collect()
 }
 
-/// The outside positions, from the highest row down.
+/// The outside positions, from the highest row down. Those of one row stand with the smaller column
+/// first.
 pub fn outside_positions(sheet: &Sheet, choice: Choice) -> Vec<usize> {
     let points = sheet.points();
     let mut outside: Vec<usize> = (0..points.len())
         .filter(|&position| !choice.contains(position))
         .collect();
-    outside.sort_by(|&a, &b| points[b].row.cmp(&points[a].row));
+    outside.sort_by_key(|&position| (Reverse(points[position].row), points[position].column));
     outside
 }
 
 /// Is the lower row at most h below the upper one? Outer labels that start in these two rows then
-/// have no free row between them. `lower_row` is below `upper_row`.
+/// have no free row between them. `lower_row` is `upper_row` or below it.
 fn too_near(upper_row: u16, lower_row: u16, label_height: u16) -> bool {
     upper_row - lower_row <= label_height
 }
 
-/// The outside positions, from the highest row down, each with its margin column. The first takes
-/// column 0. Each next takes the previous one's column plus 1 if its row is at most h below the
-/// previous row, else column 0.
+/// The outside positions, from the highest row down, each with its margin column. Those of one row
+/// stand with the smaller column first. The first takes column 0. Each next takes the previous one's
+/// column plus 1 if its row is at most h below the previous row, else column 0.
 pub fn outside_pairs(sheet: &Sheet, choice: Choice) -> Vec<(usize, u8)> {
     let mut pairs = Vec::new();
     let mut previous: Option<(u16, u8)> = None;

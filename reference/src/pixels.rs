@@ -25,6 +25,8 @@ pub enum ClashKind {
     LabelAndLeader,
     /// An inside label leaves the map: a clash of a position with itself (document 02 (a)).
     Overhang,
+    /// Two leaders meet, those of two outside points in one row (document 02 (c)).
+    Leaders,
 }
 
 /// The runs of an inside point: its label.
@@ -130,9 +132,10 @@ pub fn valid(sheet: &Sheet, choice: Choice) -> bool {
 /// that share a pixel clash, first below second. An inside point whose label leaves the map clashes
 /// with itself, first and second being equal; so this comes ahead of its clashes with later points.
 ///
-/// Two outside points never share a pixel (the randomized tests look at this too), so a clash
-/// with an outside point in it is always one of a label and a leader. Leaders and outer labels may
-/// leave the map.
+/// Two inside points clash by their labels, an inside and an outside point by label and leader, two
+/// outside points by their leaders. Two outside points share a pixel exactly if they share a row
+/// (the randomized tests look at this too): both leaders then have column 0 in it. Leaders and outer
+/// labels may leave the map.
 pub fn first_clash(sheet: &Sheet, choice: Choice) -> Option<(usize, usize, ClashKind)> {
     let marked = marked_runs(sheet, choice);
     for first in 0..marked.len() {
@@ -141,10 +144,10 @@ pub fn first_clash(sheet: &Sheet, choice: Choice) -> Option<(usize, usize, Clash
         }
         for second in first + 1..marked.len() {
             if share_a_pixel(&marked[first], &marked[second]) {
-                let kind = if choice.contains(first) && choice.contains(second) {
-                    ClashKind::Labels
-                } else {
-                    ClashKind::LabelAndLeader
+                let kind = match (choice.contains(first), choice.contains(second)) {
+                    (true, true) => ClashKind::Labels,
+                    (false, false) => ClashKind::Leaders,
+                    _ => ClashKind::LabelAndLeader,
                 };
                 return Some((first, second, kind));
             }

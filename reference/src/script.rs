@@ -92,6 +92,7 @@ pub fn mark_line(answer: Result<Marked, u8>) -> String {
                 ClashKind::Labels => "labels",
                 ClashKind::LabelAndLeader => "leader",
                 ClashKind::Overhang => "overhang",
+                ClashKind::Leaders => "leaders",
             };
             format!("{number} clash {first} {second} {word}")
         }

@@ -8,7 +8,8 @@
 //!
 //! Only pixels from column 0 on are used for forcing. They depend on a point's state alone: an
 //! outside point's outer label has negative columns only, and its leader covers column 0 to the
-//! point's column whatever its margin column is. What is found that way is a necessary condition
+//! point's column whatever its margin column is. So two outside points of one row share column 0,
+//! and each of them outside forces the other inside. What is found that way is a necessary condition
 //! for a valid choice. So if no choice meets it, no choice is valid. And no valid choice has more
 //! points inside than the choice that the search finds; when the marking in full finds that choice
 //! valid, it is a best one.

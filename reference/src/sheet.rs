@@ -15,7 +15,8 @@ pub struct Point {
 }
 
 /// An accepted sheet. It can only be had from `Sheet::read` and `Sheet::read_start`, so its
-/// sides, call numbers, columns and rows are all allowed.
+/// sides, call numbers, columns and rows are all allowed. Points may share a row, and no two are on
+/// one pixel. There may be no valid choice.
 #[derive(Clone, Debug, PartialEq, Eq)]
 pub struct Sheet {
     bytes: Vec<u8>,
@@ -153,7 +154,11 @@ fn read(bytes: &[u8], more_may_follow: bool) -> Result<Sheet, u8> {
         if points.iter().any(|earlier| earlier.call == point.call) {
             return Err(19);
         }
-        if points.iter().any(|earlier| earlier.row == point.row) {
+        let pixel = (point.column, point.row);
+        if points
+            .iter()
+            .any(|earlier| (earlier.column, earlier.row) == pixel)
+        {
             return Err(20);
         }
         points.push(point);

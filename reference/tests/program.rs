@@ -34,6 +34,17 @@ fn p9_like(third_row: u16) -> Vec<u8> {
     sheet_bytes((20, 12), (4, 3), &points)
 }
 
+/// Two points in one row. Both can be inside.
+fn two_on_a_ridge() -> Vec<u8> {
+    sheet_bytes((20, 12), (4, 2), &[(17, 2, 3), (18, 10, 3)])
+}
+
+/// Three points in one row. No choice is valid.
+fn three_on_a_ridge() -> Vec<u8> {
+    let points = [(17, 0, 3), (18, 2, 3), (19, 4, 3)];
+    sheet_bytes((20, 12), (4, 2), &points)
+}
+
 /// A call of a script.
 fn call(kind: u8, part: &[u8]) -> Vec<u8> {
     let mut bytes = vec![kind];
@@ -58,6 +69,16 @@ fn check_best_and_list() {
     assert_eq!(run("list", &p9_like(6)), three);
     let two = "plate 3 0 2\n17 out 0\n18 out 1\n19 out 0\n";
     assert_eq!(run("list", &p9_like(5)), two);
+    assert_eq!(run("check", &two_on_a_ridge()), "accepted\n");
+    assert_eq!(run("best", &two_on_a_ridge()), "2\n");
+    assert_eq!(
+        run("list", &two_on_a_ridge()),
+        "plate 2 2 0\n17 in\n18 in\n"
+    );
+    assert_eq!(run("check", &three_on_a_ridge()), "accepted\n");
+    assert_eq!(run("best", &three_on_a_ridge()), "refused 61\n");
+    assert_eq!(run("list-best-count", &three_on_a_ridge()), "refused 61\n");
+    assert_eq!(run("list", &three_on_a_ridge()), "refused 61\n");
 }
 
 #[test]
@@ -79,6 +100,12 @@ fn read() {
     assert_eq!(run("read", &plate), "refused 43\n");
     let plate = [&p9_like(5)[..], &two_columns].concat();
     assert_eq!(run("read", &plate), "accepted 0\n");
+    let plate = [&two_on_a_ridge()[..], &[0, 2, 0, 0, 1, 1]].concat();
+    assert_eq!(run("read", &plate), "refused 44\n");
+    let plate = [&two_on_a_ridge()[..], &[0, 2, 1, 0, 0, 1]].concat();
+    assert_eq!(run("read", &plate), "refused 43\n");
+    let plate = [&three_on_a_ridge()[..], &[2, 1, 2, 1, 0, 0]].concat();
+    assert_eq!(run("read", &plate), "refused 44\n");
 }
 
 #[test]
@@ -97,11 +124,17 @@ fn desk() {
         call(1, &overhanging()),
         call(2, &[1, 0]),
         call(2, &[0]),
+        call(1, &two_on_a_ridge()),
+        call(1, &three_on_a_ridge()),
+        call(2, &[0]),
+        call(2, &[1, 0]),
+        call(2, &[1, 1]),
     ]
     .concat();
     let lines = "refused 51\nrefused 16\nrefused 12\nloaded 3 2\n1 valid 2 0\n2 clash 0 1 leader\n\
                  3 valid 0 2\nrefused 31\n4 clash 0 1 labels\nloaded 1 0\n\
-                 5 clash 0 0 overhang\n6 valid 0 0\n";
+                 5 clash 0 0 overhang\n6 valid 0 0\nloaded 2 2\nrefused 61\n\
+                 7 clash 0 1 leaders\n8 clash 0 1 leader\n9 valid 1 1\n";
     assert_eq!(run("desk", &script), lines);
     let bad = format!("{lines}bad call\n");
     // Another kind byte, and calls cut short at each place.

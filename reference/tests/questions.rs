@@ -114,22 +114,34 @@ fn question_18_on_the_map() {
 fn question_19_call_numbers_differ() {
     let map = (20, 10);
     assert_eq!(check(map, (4, 2), &[(1, 2, 3), (2, 2, 4), (1, 2, 5)]), 19);
-    // Asked before the same point's row is compared.
+    // Asked before the same point's pixel is compared.
     assert_eq!(check(map, (4, 2), &[(1, 2, 3), (1, 2, 3)]), 19);
 }
 
 #[test]
-fn question_20_rows_differ() {
+fn question_20_pixels_differ() {
     let map = (20, 10);
-    assert_eq!(check(map, (4, 2), &[(1, 2, 3), (2, 5, 4), (3, 6, 3)]), 20);
+    assert_eq!(check(map, (4, 2), &[(1, 2, 3), (2, 2, 3)]), 20);
+    assert_eq!(check(map, (4, 2), &[(1, 2, 3), (2, 5, 4), (3, 2, 3)]), 20);
+    assert_eq!(check(map, (4, 2), &[(1, 2, 3), (2, 5, 4), (3, 5, 4)]), 20);
+    // A shared row, a shared column, and a column and a row of two earlier points.
+    assert_eq!(check(map, (4, 2), &[(1, 2, 3), (2, 5, 4), (3, 6, 3)]), 0);
     assert_eq!(check(map, (4, 2), &[(1, 2, 3), (2, 2, 4)]), 0);
+    assert_eq!(check(map, (4, 2), &[(1, 2, 3), (2, 5, 4), (3, 2, 4)]), 0);
+    // Column and row exchanged.
+    assert_eq!(check(map, (4, 2), &[(1, 2, 3), (2, 3, 2)]), 0);
+    // All in one row.
+    let mut points: Vec<_> = (0..32).map(|i| (i + 1, i, 7)).collect();
+    assert_eq!(check((32, 8), (256, 256), &points), 0);
+    points[31].1 = 0;
+    assert_eq!(check((32, 8), (256, 256), &points), 20);
 }
 
 #[test]
 fn points_are_asked_one_by_one() {
     let map = (20, 10);
     // The second point's 20 comes before the third point's 17.
-    assert_eq!(check(map, (4, 2), &[(1, 2, 3), (2, 5, 3), (0, 6, 4)]), 20);
+    assert_eq!(check(map, (4, 2), &[(1, 2, 3), (2, 2, 3), (0, 6, 4)]), 20);
     assert_eq!(check(map, (4, 2), &[(1, 2, 10), (0, 5, 3)]), 18);
     assert_eq!(check(map, (4, 2), &[(1, 2, 3), (1, 5, 4), (2, 30, 3)]), 19);
 }
@@ -149,12 +161,125 @@ fn questions_21_and_22_of_a_making() {
     assert_eq!(making_no(&empty, 11, WORKSPACE_NUMBERS), 21);
 }
 
+/// Three points at columns 0, 2 and 4 of row 3 with label 4 by 2, and more points. At most one of the
+/// three can be outside. The first's label meets the second's, and the second's meets the third's.
+/// With the second outside, its leader meets the first's label. So no choice is valid.
+fn ridge(more: &[(u16, u16, u16)]) -> Vec<u8> {
+    let points = [&[(17, 0, 3), (18, 2, 3), (19, 4, 3)][..], more].concat();
+    sheet_bytes((20, 12), (4, 2), &points)
+}
+
+/// What a making answers that has output and workspace enough, and a load onto a fresh desk.
+fn making_and_load(sheet: &[u8]) -> [u8; 2] {
+    let load = Desk::fresh().load(sheet, WORKSPACE_NUMBERS);
+    [making_no(sheet, 12 + 8 * 32, WORKSPACE_NUMBERS), load]
+}
+
+#[test]
+fn question_61_no_valid_choice() {
+    // The sheet's own questions are all answered yes.
+    assert_eq!(check_sheet(&ridge(&[])), 0);
+    assert_eq!(making_and_load(&ridge(&[])), [61, 61]);
+    // A fourth point elsewhere changes nothing, nor does one in the same row.
+    assert_eq!(making_and_load(&ridge(&[(20, 10, 8)])), [61, 61]);
+    assert_eq!(making_and_load(&ridge(&[(20, 12, 3)])), [61, 61]);
+    // The order in the sheet doesn't matter.
+    for columns in [[0, 4, 2], [2, 0, 4], [2, 4, 0], [4, 0, 2], [4, 2, 0]] {
+        let points: Vec<_> = (17..).zip(columns).map(|(call, c)| (call, c, 3)).collect();
+        let sheet = sheet_bytes((20, 12), (4, 2), &points);
+        assert_eq!(making_and_load(&sheet), [61, 61]);
+    }
+    // Of any two of the three, the left one can be outside with the right one inside.
+    for columns in [[0, 2], [0, 4], [2, 4]] {
+        let points: Vec<_> = (17..).zip(columns).map(|(call, c)| (call, c, 3)).collect();
+        let sheet = sheet_bytes((20, 12), (4, 2), &points);
+        assert_eq!(making_and_load(&sheet), [0, 0]);
+    }
+    // With label 2 by 2 all three can be inside.
+    let mut sheet = ridge(&[]);
+    sheet[5] = 2;
+    assert_eq!(making_and_load(&sheet), [0, 0]);
+}
+
+#[test]
+fn question_61_comes_last() {
+    let sheet = ridge(&[]);
+    let output = 12 + 8 * 3;
+    assert_eq!(making_no(&sheet, output, WORKSPACE_NUMBERS), 61);
+    assert_eq!(making_no(&sheet, output, WORKSPACE_NUMBERS + 5), 61);
+    assert_eq!(making_no(&sheet, output, WORKSPACE_NUMBERS - 1), 22);
+    assert_eq!(making_no(&sheet, output, 0), 22);
+    assert_eq!(making_no(&sheet, output - 1, WORKSPACE_NUMBERS), 21);
+    assert_eq!(making_no(&sheet, output - 1, 0), 21);
+    let mut desk = Desk::fresh();
+    assert_eq!(desk.load(&sheet, WORKSPACE_NUMBERS), 61);
+    assert_eq!(desk.load(&sheet, WORKSPACE_NUMBERS + 5), 61);
+    assert_eq!(desk.load(&sheet, WORKSPACE_NUMBERS - 1), 22);
+    assert_eq!(desk.load(&sheet, 0), 22);
+    // The sheet's questions come first.
+    assert_eq!(making_and_load(&sheet[..27]), [16, 16]);
+    assert_eq!(making_and_load(&ridge(&[(20, 20, 8)])), [18, 18]);
+    assert_eq!(making_and_load(&ridge(&[(19, 10, 8)])), [19, 19]);
+    assert_eq!(making_and_load(&ridge(&[(20, 2, 3)])), [20, 20]);
+}
+
+#[test]
+fn a_sheet_without_a_valid_choice_has_no_accepted_plate() {
+    let number = |sections: &[u8]| read_plate(&[&ridge(&[])[..], sections].concat()).number;
+    // Each of the eight choices with the rule's pairs.
+    assert_eq!(number(&[0, 3, 0, 0, 1, 1, 2, 2]), 44);
+    assert_eq!(number(&[1, 0, 2, 1, 0, 2, 1]), 44);
+    assert_eq!(number(&[1, 1, 2, 0, 0, 2, 1]), 44);
+    assert_eq!(number(&[1, 2, 2, 0, 0, 1, 1]), 44);
+    assert_eq!(number(&[2, 0, 1, 1, 2, 0]), 44);
+    assert_eq!(number(&[2, 0, 2, 1, 1, 0]), 44);
+    assert_eq!(number(&[2, 1, 2, 1, 0, 0]), 44);
+    assert_eq!(number(&[3, 0, 1, 2, 0]), 44);
+    // The questions before 44 are asked as ever.
+    assert_eq!(number(&[]), 41);
+    assert_eq!(number(&[1, 3, 2, 0, 0, 1, 1]), 42);
+    assert_eq!(number(&[1, 2, 2, 1, 0, 0, 1]), 43);
+}
+
+#[test]
+fn sheets_with_distinct_rows_never_get_61() {
+    // No label fits on the map, so all points are outside.
+    let points: Vec<_> = (0..32).map(|i| (i + 1, i, 31 - i)).collect();
+    let sheet = sheet_bytes((32, 32), (256, 256), &points);
+    assert_eq!(making_and_load(&sheet), [0, 0]);
+    // The ridge's columns in three rows. Any two labels meet.
+    let sheet = sheet_bytes((20, 12), (5, 3), &[(17, 0, 3), (18, 2, 4), (19, 4, 5)]);
+    assert_eq!(making_and_load(&sheet), [0, 0]);
+    // All points in one column.
+    let points: Vec<_> = (0..32).map(|i| (i + 1, 0, i)).collect();
+    let sheet = sheet_bytes((20, 40), (4, 9), &points);
+    assert_eq!(making_and_load(&sheet), [0, 0]);
+}
+
 #[test]
 fn a_making_or_a_load_zeroes_the_workspace_if_it_is_accepted_or_answers_61() {
     let zeroing: Vec<u8> = (0..=255)
         .filter(|&number| zeroes_workspace(number))
         .collect();
     assert_eq!(zeroing, [0, 61]);
+}
+
+#[test]
+fn workspaces_after_makings_and_loads() {
+    let zeroed = |sheet: &[u8], workspace: usize| {
+        let load = Desk::fresh().load(sheet, workspace);
+        [making_no(sheet, 12 + 8 * 32, workspace), load].map(zeroes_workspace)
+    };
+    let enough = WORKSPACE_NUMBERS;
+    assert_eq!(zeroed(&p1(), enough), [true, true]);
+    assert_eq!(zeroed(&p1(), enough - 1), [false, false]);
+    assert_eq!(zeroed(&p1()[..27], enough), [false, false]);
+    assert_eq!(zeroed(&ridge(&[]), enough), [true, true]);
+    assert_eq!(zeroed(&ridge(&[]), enough + 1), [true, true]);
+    assert_eq!(zeroed(&ridge(&[]), enough - 1), [false, false]);
+    assert_eq!(zeroed(&ridge(&[(20, 2, 3)]), enough), [false, false]);
+    // Too little output.
+    assert!(!zeroes_workspace(making_no(&ridge(&[]), 35, enough)));
 }
 
 /// The number for P1 followed by these bytes.
@@ -174,8 +299,11 @@ fn a_plate_asks_the_sheets_questions_with_at_least() {
     assert_eq!(read_plate(&p1()[..27]).number, 16);
     assert_eq!(read_plate(&p1_with(0, 2)).number, 12);
     assert_eq!(read_plate(&p1_with(22, 17)).number, 19);
+    // The third point in the first one's row, and on its pixel.
     let mut plate = p1_with(26, 3);
     plate.extend([2, 1, 2, 1, 0, 0]);
+    assert_eq!(read_plate(&plate).number, 0);
+    plate[24] = 2;
     assert_eq!(read_plate(&plate).number, 20);
     assert_eq!(p1_followed_by(&[2, 1, 2, 1, 0, 0]), 0);
 }
@@ -287,6 +415,7 @@ fn question_51_no_sheet() {
     assert_eq!(desk.load(&p1()[..27], WORKSPACE_NUMBERS), 16);
     assert_eq!(desk.load(&p1(), WORKSPACE_NUMBERS - 1), 22);
     assert_eq!(desk.load(&p1()[..9], 0), 11);
+    assert_eq!(desk.load(&ridge(&[]), WORKSPACE_NUMBERS), 61);
     assert_eq!(desk.mark(&[0]), Err(51));
     assert_eq!(desk, Desk::fresh());
 }
@@ -370,4 +499,27 @@ fn a_load_replaces_the_sheet_and_a_refused_one_does_not() {
         }
     );
     assert_eq!(desk.mark(&[1, 2]), Err(32));
+}
+
+#[test]
+fn a_load_with_61_keeps_the_sheet_before() {
+    let mut desk = desk_with_p1();
+    assert_eq!(desk.mark(&[1, 2]).map(|marked| marked.number), Ok(1));
+    let before = desk.clone();
+    let four = ridge(&[(20, 10, 8)]);
+    assert_eq!(desk.load(&four, WORKSPACE_NUMBERS), 61);
+    assert_eq!(desk, before);
+    assert_eq!(desk.loaded(), Some((3, 2)));
+    assert_eq!(desk.last_number(), 1);
+    // P1 has three points and best count 2.
+    assert_eq!(desk.mark(&[1, 3]), Err(32));
+    let marked = desk.mark(&[2, 1, 2]).unwrap();
+    assert_eq!(marked.number, 2);
+    assert_eq!(
+        marked.verdict,
+        Verdict::Valid {
+            count: 2,
+            shortfall: 0
+        }
+    );
 }

@@ -1,11 +1,12 @@
 //! The worked plates P1 to P10, the other examples and the plausible errors of document 01. Labels
-//! at the map's edge are worked out from document 02 (a), margin columns from document 02 (b).
+//! at the map's edge are worked out from document 02 (a), margin columns from document 02 (b), shared
+//! rows from document 02 (c).
 
 use reference::random::sheet_bytes;
 use reference::search::{each_choice, search_best, try_all};
 use reference::{
-    best_choice, best_count, check_sheet, first_clash, listing, margin_columns, margin_width,
-    plate_bytes, read_plate, valid, Choice, ClashKind, Desk, Marked, Sheet, Verdict,
+    best_choice, best_count, check_sheet, first_clash, listing, making_no, margin_columns,
+    margin_width, plate_bytes, read_plate, valid, Choice, ClashKind, Desk, Marked, Sheet, Verdict,
     WORKSPACE_NUMBERS,
 };
 
@@ -233,7 +234,7 @@ fn plate_number(points: &[(u16, u16)], sections: &[u8]) -> u8 {
 
 #[test]
 fn plates_with_closer_stacking_are_refused() {
-    // All outside: with the rule's columns it is accepted, since nothing inside is always valid.
+    // All outside: with the rule's columns it is accepted, since the rows are distinct.
     assert_eq!(plate_number(&P9, &[0, 3, 0, 0, 1, 1, 2, 2]), 0);
     // The third's label is in rows 6 to 8 and the second's leader in row 9.
     assert_eq!(plate_number(&P9, &[0, 3, 0, 0, 1, 1, 2, 0]), 43);
@@ -645,4 +646,283 @@ fn of_two_overhangs_the_smaller_position_is_named() {
     assert_eq!(clashes(&points, &[0, 1]), [first, None]);
     let second = Some((1, 1, ClashKind::Overhang));
     assert_eq!(clashes(&points, &[1]), [second, None]);
+}
+
+/// The clash named for a choice on a map of 20 by 12 with label 4 by 2.
+fn clash_of(points: &[(u16, u16)], inside: &[u8]) -> Option<(usize, usize, ClashKind)> {
+    first_clash(&sheet_of((4, 2), points), Choice::of(inside))
+}
+
+/// The clashes of two points: both inside, only the first, only the second, none.
+fn four_clashes(points: [(u16, u16); 2]) -> [Option<ClashKind>; 4] {
+    [&[0, 1][..], &[0], &[1], &[]].map(|inside| {
+        let (first, second, kind) = clash_of(&points, inside)?;
+        assert_eq!((first, second), (0, 1));
+        Some(kind)
+    })
+}
+
+#[test]
+fn two_points_in_one_row() {
+    let labels = Some(ClashKind::Labels);
+    let leader = Some(ClashKind::LabelAndLeader);
+    let leaders = Some(ClashKind::Leaders);
+    // Labels in columns 2 to 5 and 10 to 13. The right one's leader runs through the left one's
+    // label; the left one's leader ends in column 2.
+    let apart = [(2, 3), (10, 3)];
+    assert_eq!(four_clashes(apart), [None, leader, None, leaders]);
+    assert_eq!(
+        best_choices(&sheet_of((4, 2), &apart)),
+        [Choice::of(&[0, 1])]
+    );
+    // The right one stands first in the sheet.
+    let turned = [(10, 3), (2, 3)];
+    assert_eq!(four_clashes(turned), [None, None, leader, leaders]);
+    // The labels touch: columns 2 to 5 and 6 to 9.
+    assert_eq!(
+        four_clashes([(2, 3), (6, 3)]),
+        [None, leader, None, leaders]
+    );
+    // The labels share column 5.
+    let near = [(2, 3), (5, 3)];
+    assert_eq!(four_clashes(near), [labels, leader, None, leaders]);
+    assert_eq!(best_choices(&sheet_of((4, 2), &near)), [Choice::of(&[1])]);
+    // Side by side, at the map's left edge.
+    assert_eq!(
+        four_clashes([(0, 3), (1, 3)]),
+        [labels, leader, None, leaders]
+    );
+    // One row further up the two leaders are free of each other.
+    assert_eq!(four_clashes([(2, 3), (10, 4)]), [None, leader, None, None]);
+}
+
+#[test]
+fn three_points_in_one_row() {
+    // Labels in columns 2 to 5, 8 to 11 and 14 to 17.
+    let points = [(2, 3), (8, 3), (14, 3)];
+    assert_eq!(
+        best_choices(&sheet_of((4, 2), &points)),
+        [Choice::of(&[0, 1, 2])]
+    );
+    assert_eq!(clash_of(&points, &[1, 2]), None);
+    let leader = |first, second| Some((first, second, ClashKind::LabelAndLeader));
+    assert_eq!(clash_of(&points, &[0, 2]), leader(0, 1));
+    assert_eq!(clash_of(&points, &[0, 1]), leader(0, 2));
+    assert_eq!(clash_of(&points, &[0]), leader(0, 1));
+    let leaders = |first, second| Some((first, second, ClashKind::Leaders));
+    assert_eq!(clash_of(&points, &[1]), leaders(0, 2));
+    assert_eq!(clash_of(&points, &[2]), leaders(0, 1));
+    assert_eq!(clash_of(&points, &[]), leaders(0, 1));
+}
+
+#[test]
+fn two_leaders_in_the_order_of_clashes() {
+    let leaders = |first, second| Some((first, second, ClashKind::Leaders));
+    let overhang = |position| Some((position, position, ClashKind::Overhang));
+    // The second's label leaves the map. It is named after the first's clashes.
+    let points = [(2, 3), (18, 7), (10, 3)];
+    assert_eq!(clash_of(&points, &[1]), leaders(0, 2));
+    assert_eq!(clash_of(&points, &[1, 2]), overhang(1));
+    // It is named ahead of those of later points.
+    let points = [(18, 7), (2, 3), (10, 3)];
+    assert_eq!(clash_of(&points, &[0]), overhang(0));
+    assert_eq!(clash_of(&points, &[]), leaders(1, 2));
+    // The label of (4,2) is in columns 4 to 7 of rows 2 and 3. Both leaders meet it.
+    let leader = |first, second| Some((first, second, ClashKind::LabelAndLeader));
+    assert_eq!(clash_of(&[(10, 3), (4, 2), (12, 3)], &[1]), leader(0, 1));
+    assert_eq!(clash_of(&[(10, 3), (12, 3), (4, 2)], &[2]), leaders(0, 1));
+    assert_eq!(clash_of(&[(4, 2), (10, 3), (12, 3)], &[0]), leader(0, 1));
+    // Two labels meet, those of (3,7) and (5,8).
+    let labels = |first, second| Some((first, second, ClashKind::Labels));
+    let points = [(3, 7), (2, 3), (10, 3), (5, 8)];
+    assert_eq!(clash_of(&points, &[0, 3]), labels(0, 3));
+    let points = [(2, 3), (3, 7), (5, 8), (10, 3)];
+    assert_eq!(clash_of(&points, &[1, 2]), leaders(0, 3));
+}
+
+#[test]
+fn margin_columns_in_one_row() {
+    // Of one row the smaller column comes first, wherever it stands in the sheet.
+    let none = Choice::default();
+    let sheet = sheet_of((4, 2), &[(14, 3), (2, 3), (8, 3)]);
+    assert_eq!(margin_columns(&sheet, none), [Some(2), Some(0), Some(1)]);
+    assert_eq!(margin_width(&sheet, none), 3);
+    let first = Choice::of(&[1]);
+    assert_eq!(margin_columns(&sheet, first), [Some(1), None, Some(0)]);
+    // Row 5 is 2 above row 3, row 1 is 2 below it, row 0 is 3 below it. The label height is 2.
+    let sheet = sheet_of((4, 2), &[(9, 3), (1, 1), (5, 3), (7, 5)]);
+    assert_eq!(
+        margin_columns(&sheet, none),
+        [Some(2), Some(3), Some(1), Some(0)]
+    );
+    let sheet = sheet_of((4, 2), &[(9, 3), (1, 0), (5, 3), (7, 6)]);
+    assert_eq!(
+        margin_columns(&sheet, none),
+        [Some(1), Some(0), Some(0), Some(0)]
+    );
+    // Three rows of two points. The second row is 1 below the first, the third 4 below the second.
+    let sheet = sheet_of((4, 2), &[(3, 6), (9, 6), (3, 5), (9, 5), (9, 1), (3, 1)]);
+    assert_eq!(
+        margin_columns(&sheet, none),
+        [Some(0), Some(1), Some(2), Some(3), Some(1), Some(0)]
+    );
+    assert_eq!(margin_width(&sheet, none), 4);
+}
+
+#[test]
+fn plates_with_two_outside_points_in_one_row() {
+    let number = |points: &[(u16, u16)], sections: &[u8]| {
+        read_plate(&[&bytes_of((4, 2), points)[..], sections].concat()).number
+    };
+    let points = [(2, 3), (10, 3)];
+    assert_eq!(number(&points, &[2, 0, 1, 0]), 0);
+    assert_eq!(number(&points, &[1, 1, 1, 0, 0]), 0);
+    assert_eq!(number(&points, &[1, 0, 1, 1, 0]), 44);
+    // Both outside, the smaller column first.
+    assert_eq!(number(&points, &[0, 2, 0, 0, 1, 1]), 44);
+    // The other order, with the columns in their places or with the points.
+    assert_eq!(number(&points, &[0, 2, 1, 0, 0, 1]), 43);
+    assert_eq!(number(&points, &[0, 2, 1, 1, 0, 0]), 43);
+    // Other columns.
+    assert_eq!(number(&points, &[0, 2, 0, 0, 1, 0]), 43);
+    assert_eq!(number(&points, &[0, 2, 0, 1, 1, 0]), 43);
+    // The right one stands first in the sheet.
+    let turned = [(10, 3), (2, 3)];
+    assert_eq!(number(&turned, &[0, 2, 1, 0, 0, 1]), 44);
+    assert_eq!(number(&turned, &[0, 2, 0, 0, 1, 1]), 43);
+    // A third inside, free of both.
+    let three = [(2, 3), (10, 3), (5, 8)];
+    assert_eq!(number(&three, &[1, 2, 2, 0, 0, 1, 1]), 44);
+    assert_eq!(number(&three, &[1, 2, 2, 1, 0, 0, 1]), 43);
+    assert_eq!(number(&three, &[2, 1, 2, 1, 0, 0]), 0);
+}
+
+#[test]
+fn the_best_leaves_one_outside_in_each_shared_row() {
+    // In each row the two labels meet, and the left one's label meets the right one's leader. So the
+    // left ones are outside, in rows 6 and 2. These are more than 2 apart.
+    let bytes = bytes_of((4, 2), &[(3, 2), (5, 2), (11, 6), (8, 6)]);
+    let sheet = Sheet::read(&bytes).unwrap();
+    assert_eq!(best_choices(&sheet), [Choice::of(&[1, 2])]);
+    let plate = plate_bytes(&sheet, the_best(&sheet));
+    assert_eq!(plate[..34], bytes);
+    assert_eq!(plate[34..], [2, 1, 2, 2, 3, 0, 0, 0]);
+    let reading = read_plate(&plate);
+    assert_eq!((reading.number, reading.inside), (0, &[1, 2][..]));
+    assert_eq!(
+        listing(&bytes, the_best(&sheet)),
+        "plate 4 2 1\n17 out 0\n18 in\n19 in\n20 out 0\n"
+    );
+    // Row 4 is 2 below row 6, so its left one takes the next margin column.
+    let bytes = bytes_of((4, 2), &[(3, 4), (5, 4), (11, 6), (8, 6)]);
+    let sheet = Sheet::read(&bytes).unwrap();
+    assert_eq!(best_choices(&sheet), [Choice::of(&[1, 2])]);
+    assert_eq!(
+        listing(&bytes, the_best(&sheet)),
+        "plate 4 2 2\n17 out 1\n18 in\n19 in\n20 out 0\n"
+    );
+}
+
+#[test]
+fn the_desk_on_a_shared_row() {
+    let mut desk = Desk::fresh();
+    let bytes = bytes_of((4, 2), &[(2, 3), (10, 3)]);
+    assert_eq!(desk.load(&bytes, WORKSPACE_NUMBERS), 0);
+    assert_eq!(desk.loaded(), Some((2, 2)));
+    let clash = |kind| Verdict::Clash {
+        first: 0,
+        second: 1,
+        kind,
+    };
+    let valid = |count, shortfall| Verdict::Valid { count, shortfall };
+    let mut marked = |number, list: &[u8], verdict| {
+        assert_eq!(desk.mark(list), Ok(Marked { number, verdict }));
+    };
+    marked(1, &[0], clash(ClashKind::Leaders));
+    marked(2, &[1, 0], clash(ClashKind::LabelAndLeader));
+    marked(3, &[1, 1], valid(1, 1));
+    marked(4, &[2, 0, 1], valid(2, 0));
+}
+
+/// Has the sheet with these points, on a map of 20 by 12 with label 4 by 2, a valid choice? Making
+/// and loading have to refuse it with 61 exactly if not, and so does the listing.
+fn has_a_valid_choice(points: &[(u16, u16)]) -> bool {
+    let bytes = bytes_of((4, 2), points);
+    let sheet = Sheet::read(&bytes).unwrap();
+    let found = !best_choices(&sheet).is_empty();
+    let number = if found { 0 } else { 61 };
+    let output = 12 + 8 * points.len();
+    assert_eq!(making_no(&bytes, output, WORKSPACE_NUMBERS), number);
+    assert_eq!(Desk::fresh().load(&bytes, WORKSPACE_NUMBERS), number);
+    if !found {
+        assert_eq!(listing(&bytes, Choice::default()), "refused 61\n");
+    }
+    found
+}
+
+#[test]
+fn shared_rows_without_a_valid_choice() {
+    assert!(!has_a_valid_choice(&[(0, 3), (2, 3), (4, 3)]));
+    assert!(!has_a_valid_choice(&[(0, 3), (2, 3), (4, 3), (10, 8)]));
+    // The first outside, the two others inside with touching labels.
+    assert!(has_a_valid_choice(&[(0, 3), (2, 3), (6, 3)]));
+    assert!(!has_a_valid_choice(&[(0, 3), (2, 3), (5, 3)]));
+    // Four in one row: the second's and the third's labels touch, the third's and the fourth's meet.
+    assert!(!has_a_valid_choice(&[(0, 3), (2, 3), (6, 3), (9, 3)]));
+    assert!(has_a_valid_choice(&[(0, 3), (2, 3), (6, 3), (10, 3)]));
+}
+
+#[test]
+fn the_right_one_of_a_row_has_to_be_inside() {
+    // If it were outside, its leader would meet the left one, be that inside or outside. From column
+    // 17 on its label leaves the map.
+    assert!(has_a_valid_choice(&[(2, 3), (16, 3)]));
+    assert!(!has_a_valid_choice(&[(2, 3), (17, 3)]));
+    assert!(!has_a_valid_choice(&[(18, 3), (2, 3)]));
+    assert!(has_a_valid_choice(&[(18, 3)]));
+    // The last row is 11: a label from there on leaves the map.
+    assert!(has_a_valid_choice(&[(2, 10), (10, 10)]));
+    assert!(!has_a_valid_choice(&[(2, 11), (10, 11)]));
+    assert!(has_a_valid_choice(&[(2, 11), (10, 10)]));
+    // Its label is in columns 10 to 13 of rows 3 and 4. A point there meets it in either state.
+    assert!(!has_a_valid_choice(&[(2, 3), (10, 3), (10, 4)]));
+    assert!(!has_a_valid_choice(&[(2, 3), (10, 3), (13, 4)]));
+    // In column 14 a third can be inside, and in column 9 outside.
+    assert!(has_a_valid_choice(&[(2, 3), (10, 3), (14, 4)]));
+    assert!(has_a_valid_choice(&[(2, 3), (10, 3), (9, 4)]));
+    assert!(has_a_valid_choice(&[(2, 3), (10, 3), (12, 5)]));
+    // A third that leaves the map has its leader in row 4, through that label, or in row 5.
+    assert!(!has_a_valid_choice(&[(2, 3), (10, 3), (18, 4)]));
+    assert!(has_a_valid_choice(&[(2, 3), (10, 3), (18, 5)]));
+    // Two rows of two: the right ones' labels meet, or touch.
+    assert!(!has_a_valid_choice(&[(2, 3), (10, 3), (2, 4), (13, 4)]));
+    assert!(has_a_valid_choice(&[(2, 3), (10, 3), (2, 4), (14, 4)]));
+    assert!(has_a_valid_choice(&[(2, 3), (10, 3), (2, 5), (13, 5)]));
+}
+
+#[test]
+fn a_row_without_a_valid_choice_in_a_larger_sheet() {
+    // Twelve points far from row 3 and from each other, each in a row of its own.
+    let others: Vec<(u16, u16)> = (0..12).map(|i| (20, 6 + 3 * i)).collect();
+    let sheet_with = |row: &[(u16, u16)]| {
+        let points = [&others[..6], row, &others[6..]].concat();
+        Sheet::read(&bytes_on((40, 45), (4, 2), &points)).unwrap()
+    };
+    assert!(best_choices(&sheet_with(&[(0, 3), (2, 3), (4, 3)])).is_empty());
+    assert!(best_choices(&sheet_with(&[(2, 3), (37, 3)])).is_empty());
+    // Positions 6 and up are those of row 3. The first of them has to be outside.
+    let best = best_choices(&sheet_with(&[(0, 3), (2, 3), (6, 3)]));
+    assert_eq!(best, [Choice(0x7fff & !(1 << 6))]);
+    let best = best_choices(&sheet_with(&[(2, 3), (36, 3)]));
+    assert_eq!(best, [Choice(0x3fff)]);
+}
+
+#[test]
+fn a_listing_with_two_outside_in_one_row() {
+    // The choice isn't valid, and its columns are the rule's.
+    let bytes = bytes_of((4, 2), &[(10, 3), (2, 3), (4, 9)]);
+    assert_eq!(
+        listing(&bytes, Choice::of(&[2])),
+        "plate 3 1 2\n17 out 1\n18 out 0\n19 in\n"
+    );
 }
