@@ -3,7 +3,9 @@
 
 use std::time::{Duration, Instant};
 
-use reference::random::{falling_sheet, random_sheet, with_room, Random};
+use reference::random::{
+    distinct_rows_sheet, falling_distinct_rows_sheet, shared_rows_sheet, with_room, Random,
+};
 use reference::{best_count, Sheet};
 
 /// The sheet of these bytes, on a map with room for every label. A point whose label leaves the map
@@ -60,11 +62,14 @@ fn main() {
     for side in sides {
         for (w, h) in labels {
             measure(&format!("square {side}, label {w} by {h}"), rounds, || {
-                random_sheet(&mut random, (side, side), (w, h), 32)
+                distinct_rows_sheet(&mut random, (side, side), (w, h), 32)
             });
             let noise = w * 2;
             measure("  the same, columns falling", rounds, || {
-                falling_sheet(&mut random, (side, side), (w, h), 32, noise)
+                falling_distinct_rows_sheet(&mut random, (side, side), (w, h), 32, noise)
+            });
+            measure("  the same, points sharing rows", rounds, || {
+                shared_rows_sheet(&mut random, (side, side), (w, h), 32)
             });
         }
     }

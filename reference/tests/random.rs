@@ -1,15 +1,19 @@
 //! Randomized tests: the runs against pixels in a set, the search against trying every choice, the
-//! margin columns against the rows that outer labels take.
+//! margin columns against the rows that outer labels take. In about a third of the sheets points
+//! share rows.
 
-use std::collections::HashSet;
+use std::collections::{HashMap, HashSet};
 use std::ops::RangeInclusive;
 
 use reference::pixels::{marked_runs, share_a_pixel};
-use reference::random::{falling_sheet, random_sheet, with_room, Random};
+use reference::random::{
+    accepted, distinct_rows_sheet, falling_distinct_rows_sheet, falling_sheet, random_sheet,
+    shared_rows_sheet, with_room, Random,
+};
 use reference::search::{search_best, try_all};
 use reference::{
-    best_choice, best_count, check_sheet, first_clash, inside_positions, margin_columns,
-    plate_bytes, read_plate, run_script, valid, Choice, ClashKind, Desk, Sheet,
+    best_choice, best_count, check_sheet, first_clash, inside_positions, making_no, margin_columns,
+    plate_bytes, read_plate, run_script, valid, Choice, ClashKind, Desk, Sheet, WORKSPACE_NUMBERS,
 };
 
 /// The sheet as it is, or on a map with room for every label: one as often as the other.
@@ -25,13 +29,13 @@ fn small_dense(random: &mut Random, most_points: u16, side: u16, most_label: u16
     let map = (random.between(1, side), random.between(1, side));
     let label = (random.between(1, most_label), random.between(1, most_label));
     let n = random.between(0, most_points);
-    let bytes = if random.below(3) == 0 {
+    let sheet = if random.below(3) == 0 {
         let noise = random.below(side);
-        falling_sheet(random, map, label, n, noise)
+        accepted(|| falling_sheet(random, map, label, n, noise))
     } else {
-        random_sheet(random, map, label, n)
+        accepted(|| random_sheet(random, map, label, n))
     };
-    some_with_room(random, Sheet::read(&bytes).unwrap())
+    some_with_room(random, sheet)
 }
 
 /// A sheet of up to 32 points with sides and label sides up to these.
@@ -39,7 +43,13 @@ fn any_size(random: &mut Random, most_side: u16, most_label: u16) -> Sheet {
     let side = random.between(4, most_side);
     let label = (random.between(1, most_label), random.between(1, most_label));
     let n = random.between(1, 32);
-    Sheet::read(&random_sheet(random, (side, side), label, n)).unwrap()
+    accepted(|| random_sheet(random, (side, side), label, n))
+}
+
+/// Do two points of the sheet share a row?
+fn shares_a_row(sheet: &Sheet) -> bool {
+    let rows: HashSet<u16> = sheet.points().iter().map(|point| point.row).collect();
+    rows.len() < sheet.points().len()
 }
 
 /// An outer label's columns and rows.
@@ -117,7 +127,7 @@ fn clash_by_pixels(sheet: &Sheet, choice: Choice) -> Option<(usize, usize, Clash
             if !pixels[first].is_disjoint(&pixels[second]) {
                 let kind = match (choice.contains(first), choice.contains(second)) {
                     (true, true) => ClashKind::Labels,
-                    (false, false) => panic!("two outside points share a pixel"),
+                    (false, false) => ClashKind::Leaders,
                     _ => ClashKind::LabelAndLeader,
                 };
                 return Some((first, second, kind));
@@ -134,9 +144,10 @@ fn runs_agree_with_sets_of_pixels() {
         ClashKind::Labels,
         ClashKind::LabelAndLeader,
         ClashKind::Overhang,
+        ClashKind::Leaders,
     ];
-    let mut seen = [0; 3];
-    for _ in 0..3000 {
+    let mut seen = [0; 4];
+    for _ in 0..6000 {
         let sheet = small_dense(&mut random, 8, 14, 6);
         let choice = Choice(random.next_number() as u32);
         let clash = first_clash(&sheet, choice);
@@ -159,7 +170,8 @@ fn count_of(sheet: &Sheet, found: Option<Choice>) -> Option<usize> {
 #[test]
 fn best_count_agrees_with_sets_of_pixels_over_all_choices() {
     let mut random = Random::new(2);
-    for _ in 0..300 {
+    let mut none = 0;
+    for _ in 0..1000 {
         let sheet = small_dense(&mut random, 6, 10, 5);
         let n = sheet.points().len();
         let best = (0..1 << n)
@@ -169,7 +181,98 @@ fn best_count_agrees_with_sets_of_pixels_over_all_choices() {
             .max();
         assert_eq!(count_of(&sheet, best_choice(&sheet)), best);
         assert_eq!(best_count(&sheet), best.unwrap_or(0));
+        none += u32::from(best.is_none());
     }
+    // At times there is no valid choice.
+    assert!(none > 20, "{none}");
+}
+
+#[test]
+fn making_and_loading_answer_61_exactly_if_every_choice_clashes() {
+    let mut random = Random::new(11);
+    let mut none = 0;
+    let mut some_in_a_shared_row = 0;
+    for _ in 0..2000 {
+        let sheet = small_dense(&mut random, 7, 12, 4);
+        let bytes = sheet.bytes();
+        let every_one_clashes = (0..1 << sheet.points().len())
+            .map(Choice)
+            .all(|choice| clash_by_pixels(&sheet, choice).is_some());
+        let number = if every_one_clashes { 61 } else { 0 };
+        assert_eq!(making_no(bytes, 12 + 8 * 7, WORKSPACE_NUMBERS), number);
+        let mut desk = Desk::fresh();
+        assert_eq!(desk.load(bytes, WORKSPACE_NUMBERS), number);
+        assert_eq!(desk.loaded().is_none(), every_one_clashes);
+        // Neither the sheet's questions nor a plate's look for a valid choice.
+        assert_eq!(check_sheet(bytes), 0);
+        if every_one_clashes {
+            none += 1;
+            assert!(shares_a_row(&sheet));
+            for bits in 0..1 << sheet.points().len() {
+                assert_eq!(read_plate(&plate_bytes(&sheet, Choice(bits))).number, 44);
+            }
+        } else {
+            some_in_a_shared_row += u32::from(shares_a_row(&sheet));
+        }
+    }
+    // Most sheets with shared rows have a valid choice, and a good many have none.
+    assert!(none > 50, "{none}");
+    assert!(some_in_a_shared_row > 200, "{some_in_a_shared_row}");
+}
+
+#[test]
+fn sheets_with_distinct_rows_have_a_valid_choice() {
+    let mut random = Random::new(12);
+    for round in 0..2000 {
+        let map = (random.between(1, 40), random.between(1, 40));
+        let label = (random.between(1, 50), random.between(1, 50));
+        let n = random.between(0, 32);
+        let bytes = if round % 2 == 0 {
+            distinct_rows_sheet(&mut random, map, label, n)
+        } else {
+            let noise = random.below(40);
+            falling_distinct_rows_sheet(&mut random, map, label, n, noise)
+        };
+        let sheet = Sheet::read(&bytes).unwrap();
+        assert!(!shares_a_row(&sheet));
+        assert_eq!(sheet.points().len(), usize::from(n.min(map.1)));
+        assert_eq!(making_no(&bytes, 12 + 8 * 32, WORKSPACE_NUMBERS), 0);
+    }
+}
+
+#[test]
+fn random_sheets_often_share_rows_and_mostly_have_a_valid_choice() {
+    let mut random = Random::new(13);
+    let mut by_number = HashMap::new();
+    let mut sharing = 0;
+    let mut sharing_as_planned = 0;
+    let rounds = 3000;
+    for round in 0..rounds {
+        let side = random.between(8, 60);
+        let label = (random.between(1, 6), random.between(1, 6));
+        let n = random.between(2, 32);
+        let bytes = if round % 2 == 0 {
+            random_sheet(&mut random, (side, side), label, n)
+        } else {
+            let noise = random.below(side);
+            falling_sheet(&mut random, (side, side), label, n, noise)
+        };
+        let number = making_no(&bytes, 12 + 8 * 32, WORKSPACE_NUMBERS);
+        *by_number.entry(number).or_insert(0) += 1;
+        sharing += u32::from(Sheet::read(&bytes).is_ok_and(|sheet| shares_a_row(&sheet)));
+        // These always have a valid choice.
+        let planned = shared_rows_sheet(&mut random, (side, side), label, n);
+        assert_eq!(making_no(&planned, 12 + 8 * 32, WORKSPACE_NUMBERS), 0);
+        let planned = Sheet::read(&planned).unwrap();
+        assert!(planned.points().len() >= usize::from(n.min(side)));
+        sharing_as_planned += u32::from(shares_a_row(&planned));
+    }
+    let times = |number| by_number.get(&number).copied().unwrap_or(0);
+    assert_eq!(times(0) + times(20) + times(61), rounds);
+    assert!((rounds / 4..rounds / 2).contains(&sharing), "{sharing}");
+    assert!(sharing_as_planned > rounds * 3 / 4, "{sharing_as_planned}");
+    assert!((30..rounds / 10).contains(&times(20)), "{by_number:?}");
+    assert!((30..sharing / 3).contains(&times(61)), "{by_number:?}");
 }
 
 #[test]
@@ -200,15 +303,18 @@ fn the_search_agrees_with_trying_every_choice() {
     }
 }
 
-/// Which labels leave the map and which labels and leaders share a pixel, from sets of pixels: it
-/// has nothing of the search.
+/// Which labels leave the map and which labels and leaders share a pixel on it, from sets of pixels:
+/// it has nothing of the search.
 struct Conflicts {
+    n: usize,
     /// The points whose labels leave the map.
     overhangs: u32,
     /// By position: the points whose labels the point's label meets.
     labels: Vec<u32>,
     /// By position: the points whose leaders the point's label meets.
     leaders: Vec<u32>,
+    /// By position: the points whose leaders the point's leader meets.
+    two_leaders: Vec<u32>,
 }
 
 impl Conflicts {
@@ -217,39 +323,42 @@ impl Conflicts {
         let everything = Choice(u32::MAX);
         let labels: Vec<_> = (0..n).map(|p| pixels_of(sheet, everything, p)).collect();
         // Alone outside, a point is in margin column 0. In another column it marks more or other
-        // pixels left of the map only, where no label of an inside point is.
-        let leaders: Vec<_> = (0..n)
-            .map(|p| pixels_of(sheet, Choice(!(1 << p)), p))
+        // pixels left of the map only. These are left out.
+        let leaders: Vec<HashSet<(i32, i32)>> = (0..n)
+            .map(|p| {
+                let mut pixels = pixels_of(sheet, Choice(!(1 << p)), p);
+                pixels.retain(|&(column, _)| column >= 0);
+                pixels
+            })
             .collect();
-        let met = |p: usize, others: &[HashSet<(i32, i32)>]| {
+        let met = |p: usize, own: &[HashSet<(i32, i32)>], others: &[HashSet<(i32, i32)>]| {
             (0..n)
-                .filter(|&other| other != p && !labels[p].is_disjoint(&others[other]))
+                .filter(|&other| other != p && !own[p].is_disjoint(&others[other]))
                 .fold(0, |bits, other| bits | 1 << other)
         };
         let overhangs = (0..n)
             .filter(|&p| one_is_off_the_map(sheet, &labels[p]))
             .fold(0, |bits, p| bits | 1 << p);
         Conflicts {
+            n,
             overhangs,
-            labels: (0..n).map(|p| met(p, &labels)).collect(),
-            leaders: (0..n).map(|p| met(p, &leaders)).collect(),
+            labels: (0..n).map(|p| met(p, &labels, &labels)).collect(),
+            leaders: (0..n).map(|p| met(p, &labels, &leaders)).collect(),
+            two_leaders: (0..n).map(|p| met(p, &leaders, &leaders)).collect(),
         }
     }
 
-    /// Does no label leave the map or meet a label or a leader if just these points are inside?
+    /// Does no label leave the map, and do no two of the labels and leaders meet on it, if just
+    /// these points are inside?
     fn none_among(&self, inside: u32) -> bool {
-        if self.overhangs & inside != 0 {
-            return false;
-        }
-        let mut rest = inside;
-        while rest != 0 {
-            let p = rest.trailing_zeros() as usize;
-            if self.labels[p] & inside != 0 || self.leaders[p] & !inside != 0 {
-                return false;
-            }
-            rest &= rest - 1;
-        }
-        true
+        self.overhangs & inside == 0
+            && (0..self.n).all(|p| {
+                if inside >> p & 1 == 1 {
+                    self.labels[p] & inside == 0 && self.leaders[p] & !inside == 0
+                } else {
+                    self.two_leaders[p] & !inside == 0
+                }
+            })
     }
 }
 
@@ -274,14 +383,14 @@ fn best_of_every_choice(sheet: &Sheet) -> Option<usize> {
 fn crowded(random: &mut Random, n: u16) -> Sheet {
     let map = (random.between(4, 40), random.between(n, 3 * n));
     let label = (random.between(1, 9), random.between(1, 9));
-    let bytes = match random.below(3) {
-        0 => random_sheet(random, map, label, n),
+    let sheet = match random.below(3) {
+        0 => accepted(|| random_sheet(random, map, label, n)),
         _ => {
             let noise = random.between(1, 3 * label.0);
-            falling_sheet(random, map, label, n, noise)
+            accepted(|| falling_sheet(random, map, label, n, noise))
         }
     };
-    some_with_room(random, Sheet::read(&bytes).unwrap())
+    some_with_room(random, sheet)
 }
 
 #[test]
@@ -289,6 +398,8 @@ fn the_search_agrees_with_every_choice_up_to_20_points() {
     let mut random = Random::new(8);
     let mut some_inside = 0;
     let mut some_overhang = 0;
+    let mut some_in_a_shared_row = 0;
+    let mut none = 0;
     for n in 13..=20 {
         for _ in 0..150 {
             let sheet = crowded(&mut random, n);
@@ -302,23 +413,32 @@ fn the_search_agrees_with_every_choice_up_to_20_points() {
             some_inside += u32::from(something_to_do);
             let overhangs = Conflicts::of(&sheet).overhangs != 0;
             some_overhang += u32::from(something_to_do && overhangs);
+            some_in_a_shared_row += u32::from(something_to_do && shares_a_row(&sheet));
+            none += u32::from(count.is_none());
         }
     }
     // Most of the sheets leave the search something to do, and many of these have labels that
-    // leave the map.
+    // leave the map or points that share a row. Some have no valid choice.
     assert!(some_inside > 600, "{some_inside}");
     assert!(some_overhang > 200, "{some_overhang}");
+    assert!(some_in_a_shared_row > 100, "{some_in_a_shared_row}");
+    assert!(none > 50, "{none}");
 }
 
 #[test]
 fn large_sheets_have_valid_best_choices_that_no_neighbour_beats() {
     let mut random = Random::new(5);
+    let mut some_in_a_shared_row = 0;
     for _ in 0..300 {
         let side = random.between(32, 120);
         let label = (random.between(1, 30), random.between(1, 30));
-        let bytes = random_sheet(&mut random, (side, side), label, 32);
-        let sheet = some_with_room(&mut random, Sheet::read(&bytes).unwrap());
-        let best = best_choice(&sheet).unwrap();
+        let sheet = accepted(|| random_sheet(&mut random, (side, side), label, 32));
+        let sheet = some_with_room(&mut random, sheet);
+        let Some(best) = best_choice(&sheet) else {
+            assert!(shares_a_row(&sheet));
+            continue;
+        };
+        some_in_a_shared_row += u32::from(shares_a_row(&sheet));
         assert!(valid(&sheet, best));
         // Putting up to two more points inside clashes.
         for a in 0..32 {
@@ -332,11 +452,13 @@ fn large_sheets_have_valid_best_choices_that_no_neighbour_beats() {
         assert_eq!(reading.number, 0);
         assert_eq!(Choice::of(reading.inside), best);
     }
+    assert!(some_in_a_shared_row > 30, "{some_in_a_shared_row}");
 }
 
 #[test]
-fn outside_points_never_clash() {
+fn outside_points_clash_exactly_if_they_share_a_row() {
     let mut random = Random::new(6);
+    let mut clashing = 0;
     for _ in 0..2000 {
         let sheet = any_size(&mut random, 200, 40);
         let choice = Choice(random.next_number() as u32);
@@ -344,11 +466,43 @@ fn outside_points_never_clash() {
         for first in 0..marked.len() {
             for second in first + 1..marked.len() {
                 if !choice.contains(first) && !choice.contains(second) {
-                    assert!(!share_a_pixel(&marked[first], &marked[second]));
+                    let one_row = sheet.points()[first].row == sheet.points()[second].row;
+                    assert_eq!(share_a_pixel(&marked[first], &marked[second]), one_row);
+                    clashing += u32::from(one_row);
                 }
             }
         }
     }
+    assert!(clashing > 500, "{clashing}");
+}
+
+#[test]
+fn plates_with_two_outside_points_of_one_row_exchanged_are_refused() {
+    let mut random = Random::new(14);
+    let mut exchanged = 0;
+    for _ in 0..2000 {
+        let sheet = any_size(&mut random, 100, 20);
+        let choice = Choice(random.next_number() as u32);
+        let mut plate = plate_bytes(&sheet, choice);
+        let outside = sheet.points().len() - inside_positions(&sheet, choice).len();
+        let pairs = plate.len() - 2 * outside;
+        for upper in 1..outside {
+            let (a, b) = (pairs + 2 * (upper - 1), pairs + 2 * upper);
+            let [first, second] = [a, b].map(|place| sheet.points()[usize::from(plate[place])]);
+            if first.row != second.row {
+                assert!(first.row > second.row);
+                continue;
+            }
+            assert!(first.column < second.column);
+            assert_eq!(plate[b + 1], plate[a + 1] + 1);
+            assert_eq!(read_plate(&plate).number, 44);
+            plate.swap(a, b);
+            assert_eq!(read_plate(&plate).number, 43);
+            plate.swap(a, b);
+            exchanged += 1;
+        }
+    }
+    assert!(exchanged > 500, "{exchanged}");
 }
 
 /// The outer labels under a choice.
@@ -377,7 +531,12 @@ fn outer_labels_in_one_column_have_a_free_row_between_them() {
         let taken = rows_taken(&labels);
         for lower in &labels {
             for upper in &labels {
-                if lower.columns != upper.columns || lower.rows.start() >= upper.rows.start() {
+                if lower.columns != upper.columns || lower.rows.start() > upper.rows.start() {
+                    continue;
+                }
+                if lower.rows.start() == upper.rows.start() {
+                    // Labels that start in one row are in different columns.
+                    assert!(std::ptr::eq(lower, upper));
                     continue;
                 }
                 let mut between = lower.rows.end() + 1..*upper.rows.start();
@@ -388,26 +547,30 @@ fn outer_labels_in_one_column_have_a_free_row_between_them() {
         }
     }
     // Two labels are often in one column, and at times with just one row between them.
-    assert!(in_one_column > 10000, "{in_one_column}");
+    assert!(in_one_column > 5000, "{in_one_column}");
     assert!(one_row_apart > 100, "{one_row_apart}");
 }
 
 /// By position: the margin columns had from bands. A band is an unbroken stretch of rows that outer
 /// labels take, with a free row above and below. The points of a band take the columns 0, 1, 2 and
-/// so on from the top down. So a point's column is the number of outside points above it to which
-/// no free row is crossed.
+/// so on from the top down, and from the left in one row. So a point's column is the number of
+/// outside points above it to which no free row is crossed, and of those left of it in its row.
 fn columns_by_bands(sheet: &Sheet, choice: Choice) -> Vec<Option<u8>> {
     let taken = rows_taken(&outer_labels(sheet, choice));
     let row_of = |position: usize| i32::from(sheet.points()[position].row);
+    let column_on_the_map = |position: usize| sheet.points()[position].column;
     let outside = |position: &usize| !choice.contains(*position);
     let n = sheet.points().len();
     let column_of = |position| {
-        let above_in_the_band = |other: &usize| {
+        let before_in_the_band = |other: &usize| {
             let (row, other_row) = (row_of(position), row_of(*other));
+            if row == other_row {
+                return column_on_the_map(*other) < column_on_the_map(position);
+            }
             row < other_row && (row..other_row).all(|row| taken.contains(&row))
         };
-        let above = (0..n).filter(outside).filter(above_in_the_band);
-        above.count() as u8
+        let before = (0..n).filter(outside).filter(before_in_the_band);
+        before.count() as u8
     };
     (0..n)
         .map(|position| outside(&position).then(|| column_of(position)))
@@ -480,7 +643,9 @@ fn any_bytes_get_an_answer() {
             assert!(inside_positions(&sheet, choice).len() <= best_count(&sheet));
         }
         let mut desk = Desk::fresh();
-        desk.load(&bytes, usize::from(random.below(2)) * 32768);
+        let number = desk.load(&bytes, usize::from(random.below(2)) * 32768);
+        assert!(matches!(number, 0 | 11..=20 | 22 | 61));
+        assert_eq!(number != 0, desk == Desk::fresh());
         let _ = desk.mark(&bytes);
         let _ = run_script(&bytes);
     }
