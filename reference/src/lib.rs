@@ -1,4 +1,4 @@
-//! A reference for call-sign plates, written from documents 01 and 02 (a) and (b) alone.
+//! A reference for call-sign plates, written from documents 01 and 02 (a) to (c) alone.
 //!
 //! Whether a choice is valid is decided by marking pixels: every point's pixels are written down
 //! as runs along rows. Two points clash if their runs share a pixel, and an inside point clashes
