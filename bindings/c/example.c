@@ -1,6 +1,6 @@
-/* Document 01's P1 and its desk example, and document 02 (a)'s point whose label
-   leaves the map. `bindings/run` builds and runs it, and compares what it prints
-   with bindings/expected. */
+/* Document 01's P1 and its desk example, document 02 (a)'s point whose label leaves
+   the map, and document 02 (c)'s shared rows. `bindings/run` builds and runs it, and
+   compares what it prints with bindings/expected. */
 #include "plates.h"
 
 #include <stdio.h>
@@ -17,6 +17,21 @@ static const uint8_t P1[28] = {
 static const uint8_t EDGE[16] = {
     0x01, 0x14, 0x00, 0x0a, 0x00, 0x04, 0x00, 0x02, 0x00, 0x01,
     0x11, 0x00, 0x12, 0x00, 0x02, 0x00,
+};
+
+/* The same with 17 at (2,3) and 18 at (8,3), in one row. */
+static const uint8_t RIDGE[22] = {
+    0x01, 0x14, 0x00, 0x0a, 0x00, 0x04, 0x00, 0x02, 0x00, 0x02,
+    0x11, 0x00, 0x02, 0x00, 0x03, 0x00,
+    0x12, 0x00, 0x08, 0x00, 0x03, 0x00,
+};
+
+/* The same with three points at columns 0, 2 and 4 of one row: no choice is valid. */
+static const uint8_t CROWDED[28] = {
+    0x01, 0x14, 0x00, 0x0a, 0x00, 0x04, 0x00, 0x02, 0x00, 0x03,
+    0x11, 0x00, 0x00, 0x00, 0x03, 0x00,
+    0x12, 0x00, 0x02, 0x00, 0x03, 0x00,
+    0x13, 0x00, 0x04, 0x00, 0x03, 0x00,
 };
 
 static uint16_t workspace[PLATE_WORKSPACE];
@@ -45,6 +60,7 @@ static const char *kind(uint32_t verdict)
     case DESK_CLASH_LABELS: return "labels";
     case DESK_CLASH_LABEL_AND_LEADER: return "leader";
     case DESK_CLASH_OVERHANG: return "overhang";
+    case DESK_CLASH_TWO_LEADERS: return "leaders";
     default: return "?";
     }
 }
@@ -90,6 +106,7 @@ int main(void)
     fwrite(text, 1, plate_listing(output, made.written, text, sizeof text), stdout);
 
     static const uint8_t best[] = {2, 1, 2}, first[] = {1, 0}, none[] = {0};
+    static const uint8_t both[] = {2, 0, 1};
     struct desk desk = desk_new();
     desk = mark(desk, best, sizeof best);
     desk = load(desk, P1, sizeof P1);
@@ -98,6 +115,10 @@ int main(void)
     desk = mark(desk, none, sizeof none);
     desk = load(desk, EDGE, sizeof EDGE);
     desk = mark(desk, first, sizeof first);
-    mark(desk, none, sizeof none);
+    desk = mark(desk, none, sizeof none);
+    desk = load(desk, RIDGE, sizeof RIDGE);
+    desk = mark(desk, none, sizeof none);
+    desk = load(desk, CROWDED, sizeof CROWDED); /* refused: RIDGE stays */
+    mark(desk, both, sizeof both);
     return 0;
 }

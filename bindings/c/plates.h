@@ -14,8 +14,9 @@
    overlaps no other. A slice of count 0 may have any pointer, NULL too: nothing
    is read or written there. Nothing else is asked: any bytes at all may be lent.
 
-   Refusals. Their numbers are those of the questions in document 01; the first
-   question answered no ends a call. A refused call writes nothing.
+   Refusals. Their numbers are those of the questions in documents 01 and 02; the
+   first question answered no ends a call. A refused call writes nothing, but for
+   61, which leaves the whole workspace zero.
 
    Structs. They go by value as the x86-64 C ABI has it. They have no padding: a
    field `spare` stands where it would be. It is 0 in every result, in a desk if
@@ -56,9 +57,10 @@ PLATES_SAME(sizeof(size_t), 8);
    is accepted. */
 uint32_t plate_check_sheet(const uint8_t *sheet, size_t sheet_len);
 
-/* Making. The number is that of the first no (11 to 22), 0 if a plate is made;
-   written is the plate's length, 0 on a refusal. Bytes of the output past the
-   plate are untouched, and the whole workspace is zero afterwards. */
+/* Making. The number is that of the first no (11 to 22, 61), 0 if a plate is
+   made; written is the plate's length, 0 on a refusal. Bytes of the output past
+   the plate are untouched, and the whole workspace is zero afterwards. 61 says
+   that no choice of the sheet is valid. */
 struct plate_make_result {
     uint32_t number;
     uint32_t spare; /* 0 */
@@ -123,8 +125,9 @@ struct desk {
 PLATES_SAME(sizeof(struct desk), sizeof(struct desk_held) + 2);
 struct desk desk_new(void);
 
-/* A load. The number is that of the first no (11 to 20, 22), 0 if the sheet is
-   loaded; then the whole workspace is zero. */
+/* A load. The number is that of the first no (11 to 20, 22, 61), 0 if the sheet
+   is loaded; then the whole workspace is zero. 61 says that no choice of the sheet
+   is valid. */
 struct desk_load_result {
     struct desk desk;
     uint32_t number;
@@ -139,6 +142,7 @@ struct desk_load_result desk_load(struct desk desk,
 #define DESK_CLASH_LABELS 2           /* two labels met */
 #define DESK_CLASH_LABEL_AND_LEADER 3 /* a label met a leader */
 #define DESK_CLASH_OVERHANG 4         /* a label leaves the map */
+#define DESK_CLASH_TWO_LEADERS 5      /* two leaders in one row */
 
 /* A mark. The number is that of the first no (51, 31 to 33, 52), 0 if the list
    is marked. Then list_number is the list's number; a valid list has its count

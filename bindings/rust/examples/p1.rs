@@ -1,6 +1,6 @@
-//! Document 01's P1 and its desk example, and document 02 (a)'s point whose label
-//! leaves the map. `bindings/run` builds and runs it, and compares what it prints
-//! with bindings/expected.
+//! Document 01's P1 and its desk example, document 02 (a)'s point whose label leaves
+//! the map, and document 02 (c)'s shared rows. `bindings/run` builds and runs it, and
+//! compares what it prints with bindings/expected.
 
 use plates::{check_sheet, listing, make, read_plate, ClashKind, Desk, Refusal, Verdict};
 use plates::{LISTING, OUTPUT, WORKSPACE};
@@ -17,6 +17,21 @@ const P1: [u8; 28] = [
 const EDGE: [u8; 16] = [
     0x01, 0x14, 0x00, 0x0a, 0x00, 0x04, 0x00, 0x02, 0x00, 0x01, // the frame, n
     0x11, 0x00, 0x12, 0x00, 0x02, 0x00,
+];
+
+/// The same with 17 at (2,3) and 18 at (8,3), in one row.
+const RIDGE: [u8; 22] = [
+    0x01, 0x14, 0x00, 0x0a, 0x00, 0x04, 0x00, 0x02, 0x00, 0x02, // the frame, n
+    0x11, 0x00, 0x02, 0x00, 0x03, 0x00, //
+    0x12, 0x00, 0x08, 0x00, 0x03, 0x00,
+];
+
+/// The same with three points at columns 0, 2 and 4 of one row: no choice is valid.
+const CROWDED: [u8; 28] = [
+    0x01, 0x14, 0x00, 0x0a, 0x00, 0x04, 0x00, 0x02, 0x00, 0x03, // the frame, n
+    0x11, 0x00, 0x00, 0x00, 0x03, 0x00, //
+    0x12, 0x00, 0x02, 0x00, 0x03, 0x00, //
+    0x13, 0x00, 0x04, 0x00, 0x03, 0x00,
 ];
 
 fn main() -> Result<(), Refusal> {
@@ -38,7 +53,11 @@ fn main() -> Result<(), Refusal> {
     let desk = mark(desk, &[0]);
     let desk = load(desk, &EDGE, &mut workspace);
     let desk = mark(desk, &[1, 0]);
-    mark(desk, &[0]);
+    let desk = mark(desk, &[0]);
+    let desk = load(desk, &RIDGE, &mut workspace);
+    let desk = mark(desk, &[0]);
+    let desk = load(desk, &CROWDED, &mut workspace); // refused: RIDGE stays
+    mark(desk, &[2, 0, 1]);
     Ok(())
 }
 
@@ -79,6 +98,7 @@ fn mark(desk: Desk, list: &[u8]) -> Desk {
                 ClashKind::Labels => "labels",
                 ClashKind::LabelAndLeader => "leader",
                 ClashKind::Overhang => "overhang",
+                ClashKind::TwoLeaders => "leaders",
             };
             println!("{number} clash {first} {second} {word}");
         }

@@ -53,6 +53,8 @@ pub enum ClashKind {
     LabelAndLeader,
     /// An inside label leaves the map: a clash of a position with itself.
     Overhang,
+    /// Two leaders met, in one row.
+    TwoLeaders,
 }
 
 impl Desk {
@@ -62,7 +64,8 @@ impl Desk {
     }
 
     /// Loads a sheet. The last number stays. If the sheet is loaded the whole
-    /// workspace is zero; on a refusal it is as it was.
+    /// workspace is zero, and with 61 too, which says that no choice of the sheet
+    /// is valid; on every other refusal it is as it was.
     #[must_use = "the desk that is handed back goes on"]
     pub fn load(self, sheet: &[u8], workspace: &mut [u16]) -> (Desk, Result<(), Refusal>) {
         let loaded = ffi::desk_load(self.state, sheet, workspace);
@@ -162,7 +165,8 @@ fn clash_kind(verdict: u32) -> ClashKind {
         2 => ClashKind::Labels,
         3 => ClashKind::LabelAndLeader,
         4 => ClashKind::Overhang,
-        other => panic!("the library's promise: a verdict is 1 to 4, not {other}"),
+        5 => ClashKind::TwoLeaders,
+        other => panic!("the library's promise: a verdict is 1 to 5, not {other}"),
     }
 }
 
@@ -240,9 +244,11 @@ mod tests {
         assert!(ends(|result| *result = clash(2, 0, 1)));
         assert!(ends(|result| *result = clash(3, 0, 31)));
         assert!(ends(|result| *result = clash(4, 7, 7)));
+        assert!(ends(|result| *result = clash(5, 7, 8)));
         assert!(!ends(|result| *result = clash(2, 7, 7)), "labels of one");
         assert!(!ends(|result| *result = clash(3, 1, 0)), "not in order");
         assert!(!ends(|result| *result = clash(4, 0, 1)), "overhang of two");
+        assert!(!ends(|result| *result = clash(5, 7, 7)), "leaders of one");
         assert!(!ends(|result| *result = clash(3, 0, 256)), "no position");
         assert!(!ends(|result| result.number = 31), "refused and marked");
         assert!(!ends(|result| result.number = 50), "no question's number");
@@ -253,7 +259,7 @@ mod tests {
         );
         assert!(!ends(|result| result.list_number = 65_545), "not 16 bits");
         assert!(!ends(|result| result.verdict = 0), "no verdict");
-        assert!(!ends(|result| *result = clash(5, 0, 0)), "no such verdict");
+        assert!(!ends(|result| *result = clash(6, 0, 1)), "no such verdict");
         assert!(!ends(|result| result.verdict = 4), "a clash with a count");
         assert!(!ends(|result| result.second = 1), "valid with a clash");
         assert!(!ends(|result| result.shortfall = 65_536), "not 16 bits");

@@ -33,7 +33,8 @@ pub fn check_sheet(sheet: &[u8]) -> Result<(), Refusal> {
 
 /// Makes a best plate and gives its length. The bytes of the output past the
 /// plate are untouched and the whole workspace is zero; on a refusal both are
-/// as they were.
+/// as they were, but for 61, which says that no choice of the sheet is valid:
+/// with it the whole workspace is zero too.
 pub fn make(sheet: &[u8], output: &mut [u8], workspace: &mut [u16]) -> Result<usize, Refusal> {
     let made = ffi::make(sheet, output, workspace);
     written(&made, output.len())
@@ -122,7 +123,7 @@ mod tests {
             };
             catch_unwind(|| written(&made, 28)).is_ok()
         };
-        assert!(ends(0, 0, 28) && ends(21, 0, 0));
+        assert!(ends(0, 0, 28) && ends(21, 0, 0) && ends(61, 0, 0));
         assert!(!ends(0, 0, 29), "past the output");
         assert!(!ends(0, 1, 28), "a spare field");
         assert!(!ends(21, 0, 1), "a refusal with a length");

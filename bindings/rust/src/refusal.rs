@@ -3,7 +3,7 @@
 use std::error::Error;
 use std::fmt;
 
-/// Why a call was refused: the first of document 01's questions that is answered
+/// Why a call was refused: the first of the documents' questions that is answered
 /// no.
 #[derive(Clone, Copy, Debug, PartialEq, Eq, Hash)]
 pub struct Refusal {
@@ -52,7 +52,7 @@ fn asked(number: u8) -> Option<&'static str> {
         17 => "is the call number allowed?",
         18 => "are column and row on the map?",
         19 => "is the call number unlike every earlier one?",
-        20 => "is the row unlike every earlier one?",
+        20 => "is the point on another pixel than every earlier one?",
         21 => "has the output at least 12 + 8n bytes?",
         22 => "is the workspace at least 32,768 numbers of 16 bits?",
         31 => "is there a count byte, and does the length equal 1 plus it?",
@@ -70,6 +70,7 @@ fn asked(number: u8) -> Option<&'static str> {
         44 => "is the choice valid?",
         51 => "is a sheet loaded?",
         52 => "is the last number below 9,999?",
+        61 => "is some choice of the sheet valid?",
         _ => return None,
     })
 }
@@ -83,7 +84,7 @@ mod tests {
     #[test]
     fn other_numbers_are_broken_promises() {
         for number in 0..=600 {
-            let named = matches!(number, 11..=22 | 31..=33 | 41..=44 | 51..=52);
+            let named = matches!(number, 11..=22 | 31..=33 | 41..=44 | 51..=52 | 61);
             let refusal = catch_unwind(|| Refusal::numbered(number));
             assert_eq!(refusal.is_ok(), named, "{number}");
             if let Ok(refusal) = refusal {

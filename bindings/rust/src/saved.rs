@@ -39,9 +39,10 @@ impl Desk {
     ///
     /// The best count is taken as it stands: **an altered one isn't found**. Nor
     /// is an altered last number of at most 9,999, nor a sheet altered into
-    /// another that is accepted. Then every call is still safe and ends, but
-    /// nothing is promised of its shortfalls and numbers. All other bytes that no
-    /// desk is saved as are refused.
+    /// another that [`check_sheet`] accepts, with a valid choice or without. Then
+    /// every call is still safe and ends, but nothing is promised of its
+    /// shortfalls and numbers. All other bytes that no desk is saved as are
+    /// refused.
     pub fn from_bytes(bytes: &[u8]) -> Result<Desk, RestoreError> {
         let Ok(bytes) = <&[u8; SAVED]>::try_from(bytes) else {
             return Err(RestoreError::Length(bytes.len()));
@@ -84,7 +85,7 @@ fn no_sheet(state: &ffi::Desk) -> Result<(), RestoreError> {
     zero.then_some(()).ok_or(RestoreError::NoSheet)
 }
 
-/// A loaded sheet is accepted, and has zeros past it.
+/// A loaded sheet's own questions are answered yes, and it has zeros past it.
 fn a_sheet(sheet: &[u8; SHEET]) -> Result<(), RestoreError> {
     let (sheet, past) = sheet.split_at(sheet_length(sheet).min(SHEET));
     check_sheet(sheet).map_err(RestoreError::Sheet)?;

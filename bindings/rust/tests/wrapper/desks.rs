@@ -61,6 +61,23 @@ fn an_overhang() {
     assert_eq!(marked, Ok(Marked { number: 1, verdict }));
 }
 
+/// Document 02 (c): two points of one row, both outside.
+#[test]
+fn two_leaders() {
+    let ridge = [
+        1, 20, 0, 10, 0, 4, 0, 2, 0, 2, 1, 0, 2, 0, 3, 0, 2, 0, 8, 0, 3, 0,
+    ];
+    let desk = load(Desk::new(), &ridge);
+    shows(&desk, Some(&ridge), Some(2), 0);
+    let (_, marked) = desk.mark(&[0]);
+    let verdict = Verdict::Clash {
+        first: 0,
+        second: 1,
+        kind: ClashKind::TwoLeaders,
+    };
+    assert_eq!(marked, Ok(Marked { number: 1, verdict }));
+}
+
 #[test]
 fn forks_go_on_alone() {
     let desk = mark(load(Desk::new(), &P1), &[0]);

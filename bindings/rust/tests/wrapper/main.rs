@@ -25,6 +25,15 @@ const P3: [u8; 22] = [
     2, 0, 6, 0, 4, 0,
 ];
 
+/// Map 20 by 12, label 4 by 2, columns 0, 2 and 4 of row 3: document 02 (c)'s sheet
+/// without a valid choice.
+const CROWDED: [u8; 28] = [
+    1, 20, 0, 12, 0, 4, 0, 2, 0, 3, // the frame, n
+    1, 0, 0, 0, 3, 0, //
+    2, 0, 2, 0, 3, 0, //
+    3, 0, 4, 0, 3, 0,
+];
+
 /// No points, document 01's P10.
 const P10: [u8; 10] = [1, 20, 0, 12, 0, 4, 0, 2, 0, 0];
 

@@ -1,7 +1,7 @@
 //! Every number of a refusal, from a call that is refused with it, and what it
 //! says.
 
-use crate::{load, mark, P1, P3};
+use crate::{load, mark, CROWDED, P1, P3};
 use plates::{check_sheet, make, read_plate, Desk, Refusal, WORKSPACE};
 use std::error::Error;
 
@@ -35,8 +35,9 @@ fn sheets() {
     no(&changed(12, &[20]), 18, "are column and row on the map?");
     let words = "is the call number unlike every earlier one?";
     no(&changed(16, &[1]), 19, words);
-    let words = "is the row unlike every earlier one?";
-    no(&changed(20, &[3]), 20, words);
+    let words = "is the point on another pixel than every earlier one?";
+    no(&changed(18, &[2, 0, 3]), 20, words);
+    assert_eq!(check_sheet(&changed(20, &[3])), Ok(())); // one row alone
 }
 
 #[test]
@@ -46,6 +47,24 @@ fn makings() {
     refused(make(&P3, &mut output[1..], &mut workspace), 21, words);
     let words = "is the workspace at least 32,768 numbers of 16 bits?";
     refused(make(&P3, &mut output, &mut workspace[1..]), 22, words);
+}
+
+/// Document 02 (c)'s sheet: the output stays, the workspace is zero, and the desk
+/// keeps its sheet.
+#[test]
+fn no_valid_choice() {
+    let (mut output, mut workspace) = ([7; 36], vec![7; WORKSPACE + 1]);
+    let words = "is some choice of the sheet valid?";
+    assert_eq!(check_sheet(&CROWDED), Ok(()));
+    refused(make(&CROWDED, &mut output, &mut workspace), 61, words);
+    assert_eq!(output, [7; 36]);
+    assert!(workspace.iter().all(|&number| number == 0));
+    workspace.fill(7);
+    let desk = load(Desk::new(), &P1);
+    let (kept, answer) = desk.fork().load(&CROWDED, &mut workspace);
+    refused(answer, 61, words);
+    assert_eq!(kept, desk);
+    assert!(workspace.iter().all(|&number| number == 0));
 }
 
 #[test]

@@ -100,7 +100,7 @@ fn a_refused_sheet() {
     assert_eq!(refusal(9, &[33]), 15);
     assert_eq!(refusal(9, &[255]), 15);
     assert_eq!(refusal(9, &[4]), 17); // a fourth point of zeros
-    assert_eq!(refusal(26, &[4]), 20);
+    assert_eq!(refusal(24, &[4, 0, 4]), 20);
 }
 
 #[test]
