@@ -36,7 +36,9 @@ fn sheet_line(bytes: &[u8]) -> String {
         Ok(sheet) => sheet,
         Err(number) => return format!("sheet refused {number}"),
     };
-    let choice = reference::best_choice(&sheet);
+    let Some(choice) = reference::best_choice(&sheet) else {
+        return "sheet refused 61".to_string();
+    };
     let validity = match reference::valid(&sheet, choice) {
         true => "valid",
         false => "not valid",
@@ -105,6 +107,13 @@ fn aimed(random: &mut Random, input: &mut Calls) -> Result<usize, String> {
         input.call(LOAD, &part);
         calls += 2;
     }
+    let part = until(random, |random| {
+        let bytes = sheet(random);
+        without_a_choice(&bytes).then_some(bytes)
+    });
+    input.call(SHEET, &part);
+    input.call(LOAD, &part);
+    calls += 2;
     for number in (11..=20).chain(41..=44) {
         let part = until(random, |random| {
             let mut plate = any_plate(random);
@@ -132,6 +141,12 @@ fn aimed(random: &mut Random, input: &mut Calls) -> Result<usize, String> {
         calls += 1;
     }
     Ok(calls)
+}
+
+/// The bytes are a sheet, and no choice of it is valid.
+fn without_a_choice(bytes: &[u8]) -> bool {
+    let sheet = Sheet::read(bytes);
+    sheet.is_ok_and(|sheet| reference::best_choice(&sheet).is_none())
 }
 
 /// Tries until a part is found that isn't too long.

@@ -148,7 +148,10 @@ fn aim_at_points(random: &mut Random, sheet: &mut [u8], number: u8) {
             (place, side.saturating_add(beyond))
         }
         19 => (point, get(sheet, other)),
-        _ => (point + 4, get(sheet, other + 4)),
+        _ => {
+            put(sheet, point + 2, get(sheet, other + 2));
+            (point + 4, get(sheet, other + 4))
+        }
     };
     put(sheet, place, value);
 }
@@ -315,6 +318,21 @@ pub fn stack_without_gap(plate: &mut [u8]) -> bool {
         previous = Some((row, column));
     }
     moved
+}
+
+/// Two outside points of one row change places; the margin columns stay. Were there such points?
+pub fn reverse_a_row(plate: &mut [u8]) -> bool {
+    let Some(sections) = Sections::of(plate) else {
+        return false;
+    };
+    let row = |plate: &[u8], pair: usize| get(plate, 10 + 6 * usize::from(plate[pair]) + 4);
+    for pair in (sections.outside + 2..plate.len()).step_by(2) {
+        if row(plate, pair - 2) == row(plate, pair) {
+            plate.swap(pair - 2, pair);
+            return true;
+        }
+    }
+    false
 }
 
 /// Damages a list in one or two ways, mostly one.

@@ -45,6 +45,11 @@ impl Desk {
         Desk(self.0.fork())
     }
 
+    /// The best count of the loaded sheet.
+    pub fn best(&self) -> Option<usize> {
+        self.0.best().map(usize::from)
+    }
+
     pub fn load(self, sheet: &[u8], workspace: &mut [u16]) -> (Desk, Result<(), u8>) {
         let (desk, answer) = self.0.load(sheet, workspace);
         (Desk(desk), answer.map_err(number))
@@ -78,6 +83,7 @@ fn marked(marked: plates::Marked) -> Marked {
                 plates::ClashKind::Labels => ClashKind::Labels,
                 plates::ClashKind::LabelAndLeader => ClashKind::LabelAndLeader,
                 plates::ClashKind::Overhang => ClashKind::Overhang,
+                plates::ClashKind::TwoLeaders => ClashKind::Leaders,
             },
         },
     };

@@ -1,6 +1,6 @@
 //! Compares the proved library with the reference, call by call, and what the programs print_plate and
 //! desk_session print with the reference's texts: document 01's worked examples that aren't marked
-//! (P), examples of document 02 (a) and (b), and thousands of made-up cases, from a fixed seed and,
+//! (P), examples of document 02 (a) to (c), and thousands of made-up cases, from a fixed seed and,
 //! beside them, from a fresh one. A difference ends its seed's cases, and is shown with the bytes in
 //! hand, the seeds, and exit status 1.
 
@@ -18,7 +18,7 @@ mod scripts;
 mod sheets;
 mod side_by_side;
 
-use cases::CASES;
+use cases::{sheet_kept, CASES};
 use parts::{Part, PARTS};
 use reference::random::Random;
 use report::Report;
@@ -105,7 +105,9 @@ fn run_document(report: &mut Report) -> Compared {
         run_case(report, |report| case.run(report))
             .map_err(|message| failure(report, &message, case.name))?;
     }
-    println!("{:<22}{:>9} cases", "documents 01 and 02", CASES.len());
+    run_case(report, sheet_kept)
+        .map_err(|message| failure(report, &message, "a load with 61 keeps the sheet"))?;
+    println!("{:<22}{:>9} cases", "documents 01 and 02", CASES.len() + 1);
     Ok(())
 }
 

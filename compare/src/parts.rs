@@ -2,15 +2,15 @@
 //! made up from its own seed alone. The last three parts run programs, the others call the library.
 
 use crate::damage::{aim_at_sheet, damage_list, damage_plate, damage_sheet};
-use crate::damage::{lengthen_much, once_in, stack_without_gap, wrap_counts};
+use crate::damage::{lengthen_much, once_in, reverse_a_row, stack_without_gap, wrap_counts};
 use crate::lent::Content;
-use crate::report::{Report, NEVER_A_PLATE, STACKED, WRAPPED};
+use crate::report::{Report, LEADERS_READ, NEVER_A_PLATE, ROW_REVERSED, STACKED, WRAPPED};
 use crate::scripts::{script, script_to_52};
 use crate::sheets::{crowded_sheet, sheet, sheet_of, small_sheet};
 use crate::side_by_side::{check, listing_of_no_plate, making, printing, reading, same, session};
 use crate::side_by_side::{Buffers, Compared, Desks};
 use reference::random::Random;
-use reference::{best_choice, Choice, Sheet, WORKSPACE_NUMBERS};
+use reference::{best_choice, Choice, Sheet};
 
 pub struct Part {
     pub name: &'static str,
@@ -79,7 +79,7 @@ const CASES_OF_A_SEED: u64 = {
 
 const _: () = assert!(2 * CASES_OF_A_SEED >= 300_000);
 
-/// An accepted sheet: checked and made, and the plate read.
+/// A sheet that keeps the rules: checked and made, and the plate read.
 fn sheets(random: &mut Random, report: &mut Report) -> Compared {
     let bytes = match random.below(3) {
         0 => crowded_sheet(random),
@@ -97,12 +97,29 @@ fn sheets(random: &mut Random, report: &mut Report) -> Compared {
         let number = reading(report, &plate)?;
         same("the reading of a made plate, and yes", number, 0)?;
     }
-    // The reference's best plate, and nothing inside.
-    for choice in [best_choice(&sheet), Choice(0)] {
-        let number = reading(report, &reference::plate_bytes(&sheet, choice))?;
-        same("the reading of a plate, and yes", number, 0)?;
+    // The reference's best plate.
+    if let Some(best) = best_choice(&sheet) {
+        let number = reading(report, &reference::plate_bytes(&sheet, best))?;
+        same("the reading of a best plate, and yes", number, 0)?;
+    }
+    // Nothing inside: valid exactly if no two leaders are in one row.
+    let wanted = match shares_rows(&sheet) {
+        true => 44,
+        false => 0,
+    };
+    let number = reading(report, &reference::plate_bytes(&sheet, Choice(0)))?;
+    same("the reading with nothing inside", number, wanted)?;
+    if wanted == 44 {
+        report.feature(LEADERS_READ);
     }
     Ok(())
+}
+
+/// Are two points of the sheet in one row?
+fn shares_rows(sheet: &Sheet) -> bool {
+    let mut rows: Vec<u16> = sheet.points().iter().map(|point| point.row).collect();
+    rows.sort_unstable();
+    rows.windows(2).any(|pair| pair[0] == pair[1])
 }
 
 /// The sheet of bytes that were made up to be one.
@@ -115,6 +132,15 @@ fn note_features(report: &mut Report, sheet: &Sheet) {
     columns.sort_unstable();
     if columns.windows(2).any(|pair| pair[0] == pair[1]) {
         report.feature("sheets with equal columns");
+    }
+    if shares_rows(sheet) {
+        report.feature("sheets with shared rows");
+        report.feature(match best_choice(sheet) {
+            Some(_) => "sheets with shared rows, best made",
+            None => "sheets with shared rows and no choice",
+        });
+    } else {
+        report.feature("sheets with distinct rows");
     }
     match sheet.label_width() {
         1 => report.feature("sheets with label width 1"),
@@ -178,7 +204,7 @@ fn damaged_sheets(random: &mut Random, report: &mut Report) -> Compared {
     let buffers = any_buffers(random, &bytes);
     making(report, &bytes, buffers)?;
     listing_of_no_plate(report, &bytes)?;
-    Desks::fresh().load(report, &bytes, buffers)
+    Desks::fresh().load(report, &bytes, buffers).map(|_| ())
 }
 
 /// Random bytes, fewer than `limit`.
@@ -199,16 +225,17 @@ fn any_choice(random: &mut Random, sheet: &Sheet) -> Choice {
     let all = ((1u64 << n) - 1) as u32;
     let some = random.next_number() as u32 & all;
     let one = 1 << random.below(n.max(1) as u16);
+    let best = || best_choice(sheet).unwrap_or_default().0;
     Choice(match random.below(10) {
         0 => 0,
         1 => all,
         2 => some,
         3 => some & random.next_number() as u32,
         4 => one & all,
-        5..=6 => best_choice(sheet).0,
-        7 => best_choice(sheet).0 & !one,
-        8 => (best_choice(sheet).0 | one) & all,
-        _ => best_choice(sheet).0 & random.next_number() as u32,
+        5..=6 => best(),
+        7 => best() & !one,
+        8 => (best() | one) & all,
+        _ => best() & random.next_number() as u32,
     })
 }
 
@@ -249,6 +276,11 @@ fn damaged_plates(random: &mut Random, report: &mut Report) -> Compared {
             // Long enough for the sections of any count of points.
             plate = random_bytes(random, 2500);
             report.feature(NEVER_A_PLATE);
+        }
+        7 if reverse_a_row(&mut plate) => {
+            report.feature(ROW_REVERSED);
+            let number = reading(report, &plate)?;
+            return same("the reading of a row reversed, and 43", number, 43);
         }
         6 if stack_without_gap(&mut plate) => {
             report.feature(STACKED);
@@ -293,10 +325,8 @@ impl Script {
     }
 
     fn load(&mut self, report: &mut Report, bytes: &[u8], buffers: Buffers) -> Compared {
-        self.desks.load(report, bytes, buffers)?;
-        match Sheet::read(bytes) {
-            Ok(sheet) if buffers.workspace >= WORKSPACE_NUMBERS => self.sheet = Some(sheet),
-            _ => {}
+        if self.desks.load(report, bytes, buffers)? == 0 {
+            self.sheet = Some(made_up_sheet(bytes));
         }
         Ok(())
     }

@@ -70,11 +70,12 @@ impl Display for Seen {
 fn numbers_of(call: Call) -> Vec<u8> {
     let sheet = 11..=20;
     let own: &[u8] = match call {
-        Call::Check | Call::Print | Call::RunLoad => &[],
-        Call::Make => &[21, 22],
+        Call::Check => &[],
+        Call::Print | Call::RunLoad => &[61],
+        Call::Make => &[21, 22, 61],
         Call::Read => &[41, 42, 43, 44],
         Call::List => return vec![0],
-        Call::Load => &[22],
+        Call::Load => &[22, 61],
         Call::Mark | Call::RunMark => return vec![0, 31, 32, 33, 51, 52],
     };
     [0].into_iter()
@@ -86,11 +87,23 @@ fn numbers_of(call: Call) -> Vec<u8> {
 /// A workspace with a number too few, where that was the first no.
 pub const ONE_TOO_FEW: &str = "32,767, and refused with 22";
 
+/// A workspace that a refusal with 61 zeroed, though it wasn't zero before.
+pub const ZEROED_BY_61: &str = "not zero, and refused with 61";
+
 /// Plates whose two counts, added as bytes, are n.
 pub const WRAPPED: &str = "plates with counts that add to n + 256";
 
 /// Plates with a point in margin column 0 that is just h below the previous one.
 pub const STACKED: &str = "plates with outer labels without a gap";
+
+/// Plates in which two outside points of one row have changed places.
+pub const ROW_REVERSED: &str = "plates with a row's points reversed";
+
+/// Plates with two outside points of one row, which are right otherwise.
+pub const LEADERS_READ: &str = "plates read with two leaders in a row";
+
+/// A loaded desk is given a sheet without a valid choice.
+pub const KEPT_BY_61: &str = "loads with 61 onto a loaded desk";
 
 /// Plates of random bytes.
 pub const NEVER_A_PLATE: &str = "bytes that were never a plate";
@@ -108,12 +121,13 @@ pub const TRIED: &str = "bests by every choice, up to 12 points";
 pub const SEARCHED: &str = "bests by the search, above 12 points";
 
 /// The verdicts on lists.
-const VERDICTS: [&str; 5] = [
+const VERDICTS: [&str; 6] = [
     "lists valid, shortfall 0",
     "lists valid, shortfall above 0",
     "lists with a clash of labels",
     "lists with a clash with a leader",
     "lists with an overhang",
+    "lists with a clash of leaders",
 ];
 
 /// Which of the verdicts this one is.
@@ -133,6 +147,10 @@ fn verdict_name(verdict: Verdict) -> &'static str {
             kind: ClashKind::Overhang,
             ..
         } => VERDICTS[4],
+        Verdict::Clash {
+            kind: ClashKind::Leaders,
+            ..
+        } => VERDICTS[5],
     }
 }
 
@@ -148,12 +166,16 @@ pub const PRINTED_PIECES: &str = "printed: an input in pieces";
 pub const SCRIPT_PIECES: &str = "scripts in pieces";
 
 /// Features that must have been seen.
-const FEATURES: [&str; 44] = [
+const FEATURES: [&str; 51] = [
     "best plates with every point inside",
     "best plates with points outside",
     TRIED,
     SEARCHED,
     "sheets with equal columns",
+    "sheets with distinct rows",
+    "sheets with shared rows",
+    "sheets with shared rows, best made",
+    "sheets with shared rows and no choice",
     "sheets with label width 1",
     "sheets with label width 256",
     "sheets with label height 1",
@@ -164,12 +186,15 @@ const FEATURES: [&str; 44] = [
     "damaged sheets in plates",
     WRAPPED,
     STACKED,
+    ROW_REVERSED,
+    LEADERS_READ,
     EMPTY_START,
     NEVER_A_PLATE,
     LISTED_TOO_SHORT,
     LISTED_NO_PLATE,
     LISTED_MANY,
     "loads onto a loaded desk",
+    KEPT_BY_61,
     "loads after number 9999",
     "printed: no margin column",
     "printed: 1 margin column",
@@ -236,7 +261,7 @@ fn workspaces() -> Vec<(Call, bool, &'static str)> {
     for call in WITH_WORKSPACE {
         for kind in workspace_kinds() {
             workspaces.push((call, false, kind));
-            if ![LENGTHS[0], LENGTHS[1], ONE_TOO_FEW].contains(&kind) {
+            if ![LENGTHS[0], LENGTHS[1], ONE_TOO_FEW, ZEROED_BY_61].contains(&kind) {
                 workspaces.push((call, true, kind));
             }
         }
@@ -247,7 +272,7 @@ fn workspaces() -> Vec<(Call, bool, &'static str)> {
 /// The contents and the lengths of workspaces.
 fn workspace_kinds() -> impl Iterator<Item = &'static str> {
     let kinds = CONTENTS.into_iter().chain(LENGTHS);
-    kinds.chain([ONE_TOO_FEW])
+    kinds.chain([ONE_TOO_FEW, ZEROED_BY_61])
 }
 
 /// So many calls of a case are kept for the message of a failure.

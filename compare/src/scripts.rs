@@ -7,7 +7,7 @@ use crate::sheets::{sheet, small_sheet};
 use reference::desk::LAST_NUMBER;
 use reference::random::Random;
 use reference::script::{call_bytes, next_call, LOAD, MARK};
-use reference::{Desk, Sheet, WORKSPACE_NUMBERS};
+use reference::{best_choice, Desk, Sheet, WORKSPACE_NUMBERS};
 
 /// The most bytes of a part.
 const MOST_PART: usize = 65_535;
@@ -25,7 +25,10 @@ pub struct Calls {
 impl Calls {
     pub fn call(&mut self, kind: u8, part: &[u8]) {
         self.bytes.extend(call_bytes(kind, part));
-        if let (LOAD, Ok(sheet)) = (kind, Sheet::read(part)) {
+        if kind != LOAD {
+            return;
+        }
+        if let Some(sheet) = Sheet::read(part).ok().filter(|s| best_choice(s).is_some()) {
             self.loaded = Some(sheet);
         }
     }

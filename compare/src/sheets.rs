@@ -1,6 +1,6 @@
-//! Made-up sheets that keep the rules.
+//! Made-up sheets that keep the rules; a third of them have shared rows, and some no valid choice.
 
-use reference::random::{sheet_bytes, with_room, Random};
+use reference::random::{accepted, random_sheet, sheet_bytes, with_room, Random};
 use reference::{check_sheet, Sheet};
 
 /// A sheet of 0 to 32 points.
@@ -9,9 +9,48 @@ pub fn sheet(random: &mut Random) -> Vec<u8> {
     sheet_of(random, n)
 }
 
-/// A sheet of n points: crowded or wide, columns in one of several ways.
+/// A sheet of n points: crowded or wide, rows distinct or shared, columns in one of several ways.
+/// A few sheets with shared rows have fewer points, for want of pixels.
 pub fn sheet_of(random: &mut Random, n: u16) -> Vec<u8> {
     let label = (label_side(random), label_side(random));
+    let bytes = match random.below(12) {
+        0..=4 => with_shared_rows(random, label, n),
+        5 => in_few_rows(random, label, n),
+        _ => in_distinct_rows(random, label, n),
+    };
+    some_with_room(random, bytes)
+}
+
+/// Points that share rows, on a sheet that has a valid choice.
+fn with_shared_rows(random: &mut Random, label: (u16, u16), n: u16) -> Vec<u8> {
+    let map = (map_side(random, label.0, 1), map_side(random, label.1, n));
+    reference::random::shared_rows_sheet(random, map, label, n)
+}
+
+/// Points anywhere in a few rows: often no choice is valid.
+fn in_few_rows(random: &mut Random, label: (u16, u16), n: u16) -> Vec<u8> {
+    let map = (map_side(random, label.0, 8), map_side(random, label.1, n));
+    let least = (n / 3).clamp(1, map.1);
+    let rows = random.between(least, n.clamp(least, map.1));
+    let rows = different(random, map.1, rows);
+    let mut points: Vec<(u16, u16, u16)> = Vec::new();
+    for call in 1..=n {
+        let (column, row) = (
+            random.below(map.0),
+            rows[usize::from(random.below(rows.len() as u16))],
+        );
+        if points
+            .iter()
+            .all(|point| (point.1, point.2) != (column, row))
+        {
+            points.push((call, column, row));
+        }
+    }
+    sheet_bytes(map, label, &points)
+}
+
+/// Points in distinct rows.
+fn in_distinct_rows(random: &mut Random, label: (u16, u16), n: u16) -> Vec<u8> {
     let map = (map_side(random, label.0, 1), map_side(random, label.1, n));
     let mut rows = different(random, map.1, n);
     let columns = columns(random, map.0, label.0, n);
@@ -26,7 +65,7 @@ pub fn sheet_of(random: &mut Random, n: u16) -> Vec<u8> {
         1 => points.reverse(),
         _ => shuffle(random, &mut points),
     }
-    some_with_room(random, sheet_bytes(map, label, &points))
+    sheet_bytes(map, label, &points)
 }
 
 /// Points so close that labels and leaders are in each other's way nearly everywhere.
@@ -37,8 +76,8 @@ pub fn crowded_sheet(random: &mut Random) -> Vec<u8> {
         random.between(1, 4) * label.0,
         random.between(n, n * label.1),
     );
-    let sheet = reference::random::random_sheet(random, map, label, n);
-    some_with_room(random, sheet)
+    let sheet = accepted(|| random_sheet(random, map, label, n));
+    some_with_room(random, sheet.bytes().to_vec())
 }
 
 /// A small sheet, on which calls are fast.
@@ -46,8 +85,8 @@ pub fn small_sheet(random: &mut Random) -> Vec<u8> {
     let n = random.between(0, 8);
     let map = (random.between(8, 24), random.between(8, 24));
     let label = (random.between(1, 6), random.between(1, 5));
-    let sheet = reference::random::random_sheet(random, map, label, n);
-    some_with_room(random, sheet)
+    let sheet = accepted(|| random_sheet(random, map, label, n));
+    some_with_room(random, sheet.bytes().to_vec())
 }
 
 /// The sheet as it is, or on a map with room for every label, unless a side of that would be above

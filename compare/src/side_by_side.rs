@@ -5,7 +5,7 @@ use crate::lent::{length_name, Content, Lent};
 use crate::library;
 use crate::programs::{self, Program};
 use crate::report::{Call, Report, Seen, EMPTY_START, ONE_TOO_FEW, OTHER_CHOICE, SEARCHED, TRIED};
-use crate::report::{LISTED_MANY, LISTED_NO_PLATE, LISTED_TOO_SHORT};
+use crate::report::{KEPT_BY_61, LISTED_MANY, LISTED_NO_PLATE, LISTED_TOO_SHORT, ZEROED_BY_61};
 use crate::report::{PRINTED_NOT_LAST, PRINTED_PIECES, SCRIPT_PIECES};
 use crate::scripts;
 use reference::margin::outside_pairs;
@@ -91,7 +91,7 @@ pub fn check(report: &mut Report, bytes: &[u8]) -> Compared {
 }
 
 /// The workspace after a call that was answered with this number: zero throughout if the call was
-/// accepted, and as it was if not.
+/// accepted or refused with 61, and as it was if not.
 fn workspace_after(
     report: &mut Report,
     call: Call,
@@ -100,7 +100,7 @@ fn workspace_after(
     workspace: &Lent<u16>,
 ) -> Compared {
     let (kept, message) = match number {
-        0 => (workspace.zeroed(), "the workspace is not just zero"),
+        0 | 61 => (workspace.zeroed(), "the workspace is not just zero"),
         _ => (workspace.untouched(), "a refusal wrote to the workspace"),
     };
     must(kept, &format!("{call:?} with {buffers:?}: {message}"))?;
@@ -109,6 +109,9 @@ fn workspace_after(
     }
     if number == 22 && buffers.workspace == WORKSPACE_NUMBERS - 1 {
         report.saw(Seen::Workspace(call, false, ONE_TOO_FEW));
+    }
+    if number == 61 && !workspace.untouched() {
+        report.saw(Seen::Workspace(call, false, ZEROED_BY_61));
     }
     Ok(())
 }
@@ -166,7 +169,7 @@ fn made_plate(report: &mut Report, bytes: &[u8], plate: &[u8]) -> Compared {
 /// Fails unless the choice is valid and has the best count. Gives the reference's best choice.
 fn must_be_best(sheet: &Sheet, choice: Choice) -> Result<Choice, String> {
     must(reference::valid(sheet, choice), "the choice isn't valid")?;
-    let best = reference::best_choice(sheet);
+    let best = reference::best_choice(sheet).ok_or("the reference finds no valid choice")?;
     let valid = reference::valid(sheet, best);
     must(valid, "the reference's choice isn't valid")?;
     let (count, best_count) = (choice.0.count_ones(), best.0.count_ones());
@@ -284,7 +287,13 @@ impl Desks {
         self.reference.last_number()
     }
 
-    pub fn load(&mut self, report: &mut Report, bytes: &[u8], buffers: Buffers) -> Compared {
+    /// A load; gives the number of both.
+    pub fn load(
+        &mut self,
+        report: &mut Report,
+        bytes: &[u8],
+        buffers: Buffers,
+    ) -> Result<u8, String> {
         report.hold("load", bytes);
         let lent = Lent::copy_of(bytes, buffers.offset);
         let mut workspace = buffers.lent_workspace();
@@ -299,7 +308,11 @@ impl Desks {
         let unchanged = desk == self.proved;
         self.proved = desk;
         if number != 0 {
-            return must(unchanged, "a refused load changed the desk");
+            must(unchanged, "a refused load changed the desk")?;
+            if number == 61 && was_loaded {
+                report.feature(KEPT_BY_61);
+            }
+            return Ok(number);
         }
         let n = accepted_sheet(bytes)?.points().len();
         report.accepted(Call::Load, n);
@@ -310,12 +323,15 @@ impl Desks {
         if self.last_number() == 9999 {
             report.feature("loads after number 9999");
         }
-        self.shows_best()
+        self.shows_best()?;
+        Ok(number)
     }
 
-    /// The best count and the last number, as copies of the desks show them: the empty list is
-    /// valid, its number is the next one and its shortfall the best count.
+    /// The best count, as the desks show it, and the last number, as copies of them do: the empty
+    /// list has the next one.
     fn shows_best(&self) -> Compared {
+        let best = self.reference.loaded().map(|(_, best)| best);
+        same("the best count after a load", self.proved.best(), best)?;
         let (_, proved) = self.proved.copy().mark(&[0]);
         let reference = self.reference.clone().mark(&[0]);
         same("the empty list after a load", proved, reference)
@@ -348,6 +364,7 @@ pub fn printing(report: &mut Report, pieces: &[&[u8]]) -> Result<String, String>
     report.hold("sheet to print", &bytes);
     let printed = programs::run(Program::PrintPlate, pieces)?;
     let (number, choice) = match Sheet::read(&bytes) {
+        Ok(sheet) if reference::best_choice(&sheet).is_none() => (61, Choice::default()),
         Ok(sheet) => (0, printed_choice(report, &sheet, &printed)?),
         Err(number) => (number, Choice::default()),
     };
