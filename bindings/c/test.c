@@ -169,6 +169,37 @@ static void bytes_of_a_desk(void)
     CHECK(same(&loaded, &too_short, sizeof loaded));
 }
 
+/* Three points at columns 0, 2 and 4 of one row, document 02 (c): output and desk
+   stay, and the whole workspace is zero. */
+static void no_valid_choice(void)
+{
+    static const uint8_t crowded[28] = {
+        1, 20, 0, 10, 0, 4, 0, 2, 0, 3,
+        1, 0, 0, 0, 3, 0,
+        2, 0, 2, 0, 3, 0,
+        3, 0, 4, 0, 3, 0,
+    };
+    static const uint16_t zeros[PLATE_WORKSPACE];
+    uint8_t output[PLATE_OUTPUT], before[PLATE_OUTPUT];
+    memset(output, 0xee, sizeof output);
+    memset(before, 0xee, sizeof before);
+    memset(workspace, 0xee, sizeof workspace);
+    CHECK(plate_check_sheet(crowded, sizeof crowded) == 0);
+    struct plate_make_result made = plate_make(
+        crowded, sizeof crowded, output, sizeof output, workspace, PLATE_WORKSPACE);
+    const struct plate_make_result refused = {.number = 61};
+    CHECK(same(&made, &refused, sizeof made));
+    CHECK(same(output, before, sizeof output));
+    CHECK(same(workspace, zeros, sizeof workspace));
+
+    const struct desk desk = loaded_desk();
+    memset(workspace, 0xee, sizeof workspace);
+    struct desk_load_result loaded =
+        desk_load(desk, crowded, sizeof crowded, workspace, PLATE_WORKSPACE);
+    CHECK(loaded.number == 61 && same(&loaded.desk, &desk, sizeof desk));
+    CHECK(same(workspace, zeros, sizeof workspace));
+}
+
 /* A spare byte that isn't 0 goes along, and changes no answer; a load puts 0
    there. */
 static void a_spare_byte_goes_along(void)
@@ -195,6 +226,7 @@ int main(void)
     buffer_of_a_listing();
     listing_of_no_plate();
     bytes_of_a_desk();
+    no_valid_choice();
     a_spare_byte_goes_along();
     return failures != 0;
 }
