@@ -28,10 +28,6 @@ pub record Distinct (P : Points) : Type 0 where
 pub record DistinctRows (P : Points) : Type 0 where
   pub apart : (i j : ℕ) → i < P .n → j < P .n → P .row i ≡ P .row j → i ≡ j
 
--- Distinct rows are distinct pixels.
-pub distinct-rows : (P : Points) → DistinctRows P → Distinct P
-distinct-rows P d = record { apart = λ i j l m r c. d .apart i j l m r }
-
 -- A pixel: of a column 0, 1, ... (on the map, or past its right or top edge); or in the margin, d pixels left of the map's left
 -- edge, which is column -1 - d ("Columns left of the map are negative"). So no negative number is needed.
 pub data Pixel : Type 0 where
