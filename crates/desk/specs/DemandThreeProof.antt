@@ -36,7 +36,8 @@ use Rattle.desk.specs.Desk.{nothingHeld, heldOf, loadOutcome, verdictBy,
 use Rattle.desk.specs.Desk.{verdictOf, firstNo, markedDesk, verdictOutcome, markOutcome}
 use Rattle.desk.specs.DeskLaws.{load-yes, load-no, mark-yes, mark-no, none-mark}
 use Rattle.desk.specs.Lists.{Listed, none-list, list-count, choice-listed}
-use Rattle.desk.specs.Calls.{load, mark, Calls, noCalls, _andThen_, deskAfter, accepts, loadedAfter, lastSheet, pointsIn}
+use Rattle.desk.specs.Calls.{load, mark, Calls, noCalls, _andThen_, deskAfter, AcceptedLoad, accepts, loadedAfter}
+use Rattle.desk.specs.Calls.{lastSheet, pointsIn}
 use Rattle.desk.specs.Calls.{markedLists, lastNumber, markNoAfter, MarkedAfter, choiceOfList, ValidList, PlateMade, sectionRead}
 use Rattle.desk.specs.DemandThree.{given, numberedLists, numberFrom, LoadRight, VerdictRight}
 use Rattle.desk.specs.DemandThree.{MarkedRight, MarkRight, BestList, DemandThree}
@@ -121,8 +122,8 @@ plate-made-best s p a m = by (m .answer) (m .made) (m .not-refused) (m .plate)
 
 -- from every accepted sheet that has a valid choice some plate is made: a best choice exists, and its plate with zeroed buffers meets the
 -- promise
-pub some-plate : (s : List ℕ) → Accepted s → Feasible (pointsOf s) → (p : List ℕ) × PlateMade s p
-some-plate s a f =
+feasible-plate : (s : List ℕ) → Accepted s → Feasible (pointsOf s) → (p : List ℕ) × PlateMade s p
+feasible-plate s a f =
     let S = best-count-reached (pointsOf s) (a .proper .label-width .0) f in
     let o : List ℕ = replicate (12 + 8 * pointCount s) 0 in
     let w : List ℕ = replicate workspaceCells 0 in
@@ -145,6 +146,10 @@ some-plate s a f =
         plate = refl;
       },
     )
+
+-- so from the sheet of every accepted load
+pub some-plate : (s w : List ℕ) → AcceptedLoad s w → (p : List ℕ) × PlateMade s p
+some-plate s w z = let a = none-load s (length w) .is z in feasible-plate s (a .0 .0) (a .1 .0)
 
 -- THE DESK AFTER ANY CALLS, tied to the words.
 
@@ -343,5 +348,5 @@ demand-three calls = record {
   load = load-right calls;
   mark = mark-right calls;
   plates = λ s e p m. plate-made-best s p (sheet-accepted calls s e .0) m;
-  some-plate = λ s e. let a = sheet-accepted calls s e in some-plate s (a .0) (a .1);
+  some-plate = λ s e. let a = sheet-accepted calls s e in feasible-plate s (a .0) (a .1);
 }
