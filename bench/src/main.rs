@@ -29,13 +29,14 @@ struct Lent {
 }
 
 /// What a making leaves: the answer; the plate's sheet bytes and inside count;
-/// whether the rest is as document 01 says.
+/// whether the rest is as documents 01 and 02 (c) say.
 fn outcome(make: Make, sheet: &[u8], lent: Lent) -> (Result<usize, u8>, Vec<u8>, bool) {
     let mut output = vec![0xa5; lent.output];
     let mut workspace = vec![lent.filled; lent.workspace];
     let answer = make(sheet, &mut output, &mut workspace);
     let (written, left) = match answer {
         Ok(written) => (written, 0),
+        Err(61) => (0, 0),
         Err(_) => (0, lent.filled),
     };
     let clean = written <= output.len()

@@ -25,6 +25,8 @@ struct Map {
     meet: [u64; LONG],
     /// The points whose labels reach over i's row from below, on its right.
     over: [u64; LONG],
+    /// The points above i in height order that are in its row.
+    level: [u64; LONG],
 }
 
 /// The members of a set, ascending.
@@ -40,6 +42,15 @@ fn members(mut set: u64) -> impl Iterator<Item = usize> {
 #[inline]
 fn greatest(set: u64) -> usize {
     (63 - (set | 1).leading_zeros()) as usize
+}
+
+/// The parts' values put together with what is inside so far: 0 if one of them is.
+#[inline]
+fn joined(acc: u64, lower: u64, upper: u64) -> u64 {
+    if lower == 0 || upper == 0 {
+        return 0;
+    }
+    acc + (lower - 1) + (upper - 1)
 }
 
 /// The numbers below k, for k < 64.
@@ -61,6 +72,7 @@ impl Map {
             clear: [n as u8 + 1; LONG],
             meet: [0; LONG],
             over: [0; LONG],
+            level: [0; LONG],
         };
         map.rank[..PLACES].copy_from_slice(&points.rank);
         map.allowed[..PLACES].copy_from_slice(&points.allowed);
@@ -74,6 +86,7 @@ impl Map {
                     map.clear[j] = i as u8;
                     break;
                 }
+                map.level[j] |= u64::from(row[i] == row[j]) << i;
                 if column[i].abs_diff(column[j]) < w {
                     map.meet[i] |= 1 << j;
                     map.meet[j] |= 1 << i;
@@ -117,10 +130,14 @@ impl Map {
             & (self.meet[i] >> (q % LONG) & 1 == 0)
     }
 
-    /// The best of a slab, its open points given by their ranks.
+    /// One more than the best of a slab, its open points given by their ranks, or
+    /// 0 if it has no valid choice: so if a and b are in one row.
     #[inline]
     fn entry(&self, table: &[[u16; 4]], (a, b, q): (usize, usize, usize), open: u64) -> u64 {
-        let (mut best, mut acc) = (0, 0);
+        if self.level[a % LONG] >> (b % LONG) & 1 == 1 {
+            return 0;
+        }
+        let (mut best, mut acc) = (0, 1);
         let mut open = open;
         while open != 0 {
             let k = greatest(open);
@@ -128,7 +145,7 @@ impl Map {
             let p = usize::from(self.order[k]) % LONG;
             let lower = get(table, place(a, p, q));
             let upper = get(table, place(p, b, self.reach(a, p, q)));
-            best = best.max(acc + lower + upper);
+            best = best.max(joined(acc, lower, upper));
             if !self.good(a, b, q, p) {
                 return best;
             }
@@ -153,7 +170,7 @@ impl Map {
     }
 
     /// Puts a slab's points inside down to its rightmost outside one, and cuts
-    /// it there.
+    /// it there. The slab has a valid choice.
     fn slab(
         &self,
         table: &[[u16; 4]],
@@ -161,7 +178,7 @@ impl Map {
         (a, b, q): (usize, usize, usize),
     ) {
         let want = get(table, place(a, b, q));
-        let mut acc = 0;
+        let mut acc = 1;
         for k in (0..self.limit(a, b)).rev() {
             let p = usize::from(self.order[k]);
             if p <= a || b <= p {
@@ -170,7 +187,7 @@ impl Map {
             let reach = self.reach(a, p, q);
             let lower = get(table, place(a, p, q));
             let upper = get(table, place(p, b, reach));
-            if acc + lower + upper == want {
+            if joined(acc, lower, upper) == want {
                 self.slab(table, inside, (a, p, q));
                 self.slab(table, inside, (p, b, reach));
                 return;
@@ -189,8 +206,13 @@ pub fn make(sheet: &[u8], output: &mut [u8], workspace: &mut [u16]) -> Result<us
     let (table, _) = workspace.as_chunks_mut::<4>();
     map.fill(table);
     let mut inside = [false; PLACES];
-    map.slab(table, &mut inside, (0, n + 1, 0));
-    let written = write_plate(sheet, &points, &inside, output);
+    let any_valid = get(table, place(0, n + 1, 0)) != 0;
+    if any_valid {
+        map.slab(table, &mut inside, (0, n + 1, 0));
+    }
     workspace.fill(0);
-    Ok(written)
+    if !any_valid {
+        return Err(61);
+    }
+    Ok(write_plate(sheet, &points, &inside, output))
 }
