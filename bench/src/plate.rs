@@ -1,4 +1,4 @@
-//! Sheet and plate as bytes (documents 01 and 02 (a) and (b)): the questions in
+//! Sheet and plate as bytes (documents 01 and 02 (a) to (c)): the questions in
 //! their order, the two orders of the points, and a plate written from a choice.
 
 /// The most points a sheet can have.
@@ -41,7 +41,7 @@ pub fn check_sheet(sheet: &[u8]) -> Result<usize, u8> {
         return Err(16);
     }
     let mut calls = [0; MOST];
-    let mut rows = [0; MOST];
+    let mut pixels = [(0, 0); MOST];
     for (i, point) in sheet[10..].chunks_exact(6).enumerate() {
         let (call, column, row) = (number(point, 0), number(point, 2), number(point, 4));
         if !(1..=9999).contains(&call) {
@@ -53,11 +53,11 @@ pub fn check_sheet(sheet: &[u8]) -> Result<usize, u8> {
         if calls[..i].contains(&call) {
             return Err(19);
         }
-        if rows[..i].contains(&row) {
+        if pixels[..i].contains(&(row, column)) {
             return Err(20);
         }
         calls[i] = call;
-        rows[i] = row;
+        pixels[i] = (row, column);
     }
     Ok(n)
 }

@@ -7,6 +7,7 @@ use crate::plate::WORKSPACE;
 use crate::proved;
 use crate::sheets::{any, families, sheet, Random, SIZES};
 use crate::{baseline, listing, masks};
+use std::ops::Range;
 
 type List = fn(&[u8], &mut [u8]) -> Option<usize>;
 const LISTINGS: &[List] = &[
@@ -293,9 +294,9 @@ fn refusals() {
             bytes[at] = value;
             asked(&bytes)
         };
-        let copied = |from: usize, to: usize| {
+        let copied = |from: Range<usize>, to: usize| {
             let mut bytes = good.clone();
-            bytes.copy_within(from..from + 2, to);
+            bytes.copy_within(from, to);
             asked(&bytes)
         };
         assert_eq!(asked(&good[..9]), [Some(11); 4]);
@@ -306,8 +307,8 @@ fn refusals() {
         assert_eq!(changed(9, 4), [Some(16); 4]);
         assert_eq!(changed(11, 0x28), [Some(17); 4]);
         assert_eq!(changed(15, 0x20), [Some(18); 4]);
-        assert_eq!(copied(10, 16), [Some(19); 4]);
-        assert_eq!(copied(14, 26), [Some(20); 4]);
+        assert_eq!(copied(10..12, 16), [Some(19); 4]);
+        assert_eq!(copied(12..16, 24), [Some(20); 4]);
         assert_eq!(asked(&good), [None; 4]);
     }
 }
