@@ -247,28 +247,30 @@ fn makers() -> usize {
     );
     let mut wrong = 0;
     let mut random = Vec::new();
-    for family in SIZES.into_iter().flat_map(|n| families(n, SHEETS)) {
-        wrong += disagreements(&family);
-        let best = maker_times(&family);
-        print_makers(&family, best);
-        if family.name == "random" {
-            random.push((family.points, best));
-            println!();
+    for n in SIZES {
+        for family in families(n, SHEETS) {
+            wrong += disagreements(&family);
+            let best = maker_times(&family);
+            print_makers(&family, best);
+            if family.name == "random" {
+                random.push((n, best));
+            }
         }
+        println!();
     }
     print_growth(&random);
     wrong
 }
 
-/// Times the other calls, and make beside them, on dense and on sparse sheets, and
-/// prints the tables; how many sheets get a wrong answer.
+/// Times the other calls, and make beside them, on three families, and prints the
+/// tables; how many sheets get a wrong answer.
 fn other_calls() -> usize {
-    println!("Other calls, on the dense and the sparse sheets of {MOST} points, and make again,");
-    println!("by turns with them. listing and read_plate: the plate that was made. mark: that");
-    println!("plate's inside list, at a desk with the sheet loaded; it is valid, so every two");
-    println!("points are tested. load: the sheet, at a fresh desk.");
+    println!("Other calls, on the dense sheets, the sparse ones and the ridge lines of {MOST}");
+    println!("points, and make again, by turns with them. listing and read_plate: the plate");
+    println!("that was made. mark: that plate's inside list, at a desk with the sheet loaded;");
+    println!("it is valid, so every two points are tested. load: the sheet, at a fresh desk.");
     let mut wrong = 0;
-    let timed = |family: &Family| ["dense", "sparse"].contains(&family.name);
+    let timed = |family: &Family| ["dense", "sparse", "ridge lines"].contains(&family.name);
     for family in families(MOST, SHEETS).filter(timed) {
         println!();
         let given: Vec<Given> = family.sheets.into_iter().map(Given::new).collect();

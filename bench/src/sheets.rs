@@ -140,6 +140,35 @@ fn labels_of(random: &mut Random, n: usize, side: usize) -> Vec<u8> {
     sheet(random, map, (side, side), points)
 }
 
+/// Rows of two to four points, the topmost of what is left, often closer to each
+/// other than a label is high. One choice is always valid: the leftmost point of
+/// each row outside and all others inside. A row that would break it is drawn
+/// again, further up.
+pub fn ridge_lines(random: &mut Random, n: usize) -> Vec<u8> {
+    let map = (1024, 4096);
+    let label = (random.within(16, 96), random.within(4, 24));
+    let apart = |x: usize, y: usize| x.abs_diff(y) >= label.0;
+    let mut points = Vec::new();
+    // Those of the points that are inside in that choice.
+    let mut inside: Vec<(usize, usize)> = Vec::new();
+    let mut row = 0;
+    while points.len() < n {
+        row += random.within(1, label.1 / 2);
+        let count = random.within(2, 4).min(n - points.len());
+        let mut columns = random.different(count, map.0 - label.0 + 1);
+        columns.sort_unstable();
+        let (leftmost, others) = (columns[0], &columns[1..]);
+        let mut reaching = inside.iter().filter(|(_, below)| row < below + label.1);
+        if others.windows(2).all(|pair| apart(pair[0], pair[1]))
+            && reaching.all(|&(x, _)| leftmost < x && others.iter().all(|&y| apart(x, y)))
+        {
+            points.extend(columns.iter().map(|&column| (column, row)));
+            inside.extend(others.iter().map(|&column| (column, row)));
+        }
+    }
+    sheet(random, map, label, points)
+}
+
 /// A named set of sheets with the same number of points.
 pub struct Family {
     pub name: &'static str,
@@ -150,7 +179,7 @@ pub struct Family {
 /// A sheet of n points.
 type Draw = fn(&mut Random, usize) -> Vec<u8>;
 
-const FAMILIES: [(&str, Draw); 8] = [
+const FAMILIES: [(&str, Draw); 9] = [
     ("dense", dense),
     ("sparse", sparse),
     ("one column", one_column),
@@ -159,6 +188,7 @@ const FAMILIES: [(&str, Draw); 8] = [
     ("labels of 1 by 1", |r, n| labels_of(r, n, 1)),
     ("labels of 256 by 256", |r, n| labels_of(r, n, 256)),
     ("random", any),
+    ("ridge lines", ridge_lines),
 ];
 
 /// All families with n points, of so many sheets each; the same at every call.
