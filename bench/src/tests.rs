@@ -5,7 +5,7 @@
 use crate::plate::WORKSPACE;
 #[cfg(feature = "proved")]
 use crate::proved;
-use crate::sheets::{any, families, sheet, Random, SIZES};
+use crate::sheets::{any, families, ridge_lines, sheet, Random, SIZES};
 use crate::{baseline, listing, masks};
 use std::ops::Range;
 
@@ -38,14 +38,18 @@ fn workspaces() -> [Vec<u16>; 4] {
     ]
 }
 
-/// Checks what a call leaves in a lent output and workspace; the plate.
+/// Checks what a call leaves in a lent output and workspace; the plate. Of all
+/// refusals 61 alone leaves the workspace zero.
 fn made(make: Make, sheet: &[u8], lent: &[u16]) -> Result<Vec<u8>, u8> {
     let mut output = vec![0xa5; 300];
     let mut workspace = lent.to_vec();
     let answer = make(sheet, &mut output, &mut workspace);
     let Ok(written) = answer else {
         assert!(output.iter().all(|&byte| byte == 0xa5));
-        assert_eq!(workspace, lent);
+        match answer {
+            Err(61) => assert!(workspace.iter().all(|&number| number == 0)),
+            _ => assert_eq!(workspace, lent),
+        }
         return answer.map(|_| vec![]);
     };
     assert!(output[written..].iter().all(|&byte| byte == 0xa5));
@@ -67,17 +71,26 @@ fn read(sheet: &[u8]) -> (i32, i32, Vec<(i32, i32)>) {
     (number(5), number(7), points)
 }
 
+/// Whether two of a sheet's points are in one row.
+fn shares_rows(sheet: &[u8]) -> bool {
+    let (_, _, points) = read(sheet);
+    let mut rows: Vec<i32> = points.into_iter().map(|(_, row)| row).collect();
+    rows.sort_unstable();
+    rows.windows(2).any(|pair| pair[0] == pair[1])
+}
+
 /// The conflicts of two points, as crates/labeling/specs/ConflictTable.antt has them, and the frame; bit i says whether i is inside.
 fn valid(sheet: &[u8], inside: u32) -> bool {
     let (w, h, points) = read(sheet);
     let is_in = |i: usize| inside >> i & 1 == 1;
     let free = |i: usize, j: usize| {
         let ((ci, ri), (cj, rj)) = (points[i], points[j]);
-        ri >= rj
+        (ri, ci) >= (rj, cj)
             || match (is_in(i), is_in(j)) {
                 (true, true) => rj >= ri + h || ci >= cj + w || cj >= ci + w,
                 (true, false) => rj >= ri + h || ci > cj,
-                _ => true,
+                (false, true) => true,
+                (false, false) => ri != rj,
             }
     };
     let (width, height) = (number(sheet, 1), number(sheet, 3));
@@ -86,9 +99,15 @@ fn valid(sheet: &[u8], inside: u32) -> bool {
         .all(|i| (!is_in(i) || on_map(points[i])) && (0..points.len()).all(|j| free(i, j)))
 }
 
-fn best(sheet: &[u8]) -> u32 {
+/// The best count of a sheet, or 20 or 61. No other question is asked.
+fn best(sheet: &[u8]) -> Result<u32, u8> {
+    let (_, _, mut points) = read(sheet);
+    points.sort_unstable();
+    if points.windows(2).any(|pair| pair[0] == pair[1]) {
+        return Err(20);
+    }
     let counts = (0..1u32 << sheet[9]).filter(|&inside| valid(sheet, inside));
-    counts.map(u32::count_ones).max().unwrap()
+    counts.map(u32::count_ones).max().ok_or(61)
 }
 
 /// Checks all of a plate but that it is best; its inside count.
@@ -102,7 +121,7 @@ fn count_of(sheet: &[u8], plate: &[u8]) -> u32 {
     let choice = inside.iter().fold(0, |choice, &i| choice | 1 << i);
     assert!(valid(sheet, choice));
     let mut outside: Vec<usize> = (0..points.len()).filter(|i| choice >> i & 1 == 0).collect();
-    outside.sort_by_key(|&i| -points[i].1);
+    outside.sort_by_key(|&i| (-points[i].1, points[i].0));
     let mut expected = vec![outside.len() as u8];
     let mut column = 0;
     for (k, &i) in outside.iter().enumerate() {
@@ -131,28 +150,50 @@ fn p1() {
     assert_lists(&plate, "plate 3 2 1\n17 out 0\n18 in\n19 in\n");
 }
 
-/// P1's map and label with one point, and what its plate adds to the sheet.
-fn alone(column: u8, row: u8) -> Vec<Vec<u8>> {
-    let sheet = [
-        &[1, 20, 0, 10, 0, 4, 0, 2, 0, 1, 17, 0][..],
-        &[column, 0, row, 0],
-    ]
-    .concat();
-    let [zeros, ..] = workspaces();
-    let plates = MAKERS.iter().map(|make| made(*make, &sheet, &zeros));
-    plates.map(|plate| plate.unwrap()[16..].to_vec()).collect()
+/// P1's map and label with these points.
+fn like_p1(points: &[(u8, u8)]) -> Vec<u8> {
+    let mut sheet = P1[..9].to_vec();
+    sheet.push(points.len() as u8);
+    for (call, &(column, row)) in (17..).zip(points) {
+        sheet.extend([call, 0, column, 0, row, 0]);
+    }
+    sheet
+}
+
+/// What every maker's plate of these points adds to the sheet, whatever the
+/// workspace, or the number of the refusal.
+fn added(points: &[(u8, u8)]) -> Result<Vec<u8>, u8> {
+    let sheet = like_p1(points);
+    let workspaces = workspaces();
+    let each = |make: &Make| workspaces.each_ref().map(|lent| made(*make, &sheet, lent));
+    let plates: Vec<_> = MAKERS.iter().flat_map(each).collect();
+    assert!(plates.iter().all(|plate| *plate == plates[0]));
+    plates[0].clone().map(|plate| plate[sheet.len()..].to_vec())
 }
 
 /// Document 02 (a): only a label that is wholly on the map is inside.
 #[test]
 fn the_frame() {
-    for (column, row) in [(16, 3), (5, 8), (16, 8)] {
-        assert!(alone(column, row).iter().all(|added| *added == [1, 0, 0]));
+    for point in [(16, 3), (5, 8), (16, 8)] {
+        assert_eq!(added(&[point]), Ok(vec![1, 0, 0]));
     }
-    for (column, row) in [(18, 2), (17, 3), (5, 9), (17, 8), (16, 9)] {
-        let outside = [0, 1, 0, 0];
-        assert!(alone(column, row).iter().all(|added| *added == outside));
+    for point in [(18, 2), (17, 3), (5, 9), (17, 8), (16, 9)] {
+        assert_eq!(added(&[point]), Ok(vec![0, 1, 0, 0]));
     }
+}
+
+/// Document 02 (c): of a row at most one point is outside. It is the leftmost, or
+/// its leader would cross the others.
+#[test]
+fn one_row() {
+    assert_eq!(added(&[(2, 3), (6, 3)]), Ok(vec![2, 0, 1, 0]));
+    assert_eq!(added(&[(2, 3), (5, 3)]), Ok(vec![1, 1, 1, 0, 0]));
+    assert_eq!(added(&[(5, 3), (2, 3)]), Ok(vec![1, 0, 1, 1, 0]));
+    let three = added(&[(4, 3), (8, 3), (2, 3)]);
+    assert_eq!(three, Ok(vec![2, 0, 1, 1, 2, 0]));
+    assert_eq!(added(&[(0, 3), (2, 3), (4, 3)]), Err(61));
+    assert_eq!(added(&[(2, 3), (18, 3)]), Err(61));
+    assert_eq!(added(&[(2, 3), (2, 4), (2, 3)]), Err(20));
 }
 
 /// All listings of a plate are this text: in a buffer that is just as long, and
@@ -196,8 +237,8 @@ fn listings() {
     let mut random = Random::new(12);
     let [zeros, ..] = workspaces();
     for round in 0..4000 {
-        let draw = if round % 2 == 0 { any } else { tiny };
-        let bytes = draw(&mut random, round % 33);
+        let draw = [any, tiny, ridge_lines][round % 3];
+        let bytes = draw(&mut random, round / 3 % 33);
         let plate = made(baseline::make, &bytes, &zeros).unwrap();
         assert_lists(&plate, &listing_of(&plate));
     }
@@ -236,21 +277,43 @@ fn tiny(random: &mut Random, n: usize) -> Vec<u8> {
     sheet(random, map, label, points)
 }
 
+/// Points anywhere on a map of few rows, two at times on one pixel; at times with
+/// room for each label.
+fn crowded(random: &mut Random, n: usize) -> Vec<u8> {
+    let taken = (random.within(1, 32), random.within(1, 12));
+    let label = (random.within(1, 6), random.within(1, 4));
+    let point = |_| (random.within(0, taken.0 - 1), random.within(0, taken.1 - 1));
+    let points = (0..n).map(point).collect();
+    let room = random.within(0, 1);
+    let map = (
+        taken.0 + room * (label.0 - 1),
+        taken.1 + room * (label.1 - 1),
+    );
+    sheet(random, map, label, points)
+}
+
 #[test]
 fn best_of_all_choices() {
     let mut random = Random::new(2021);
     let workspaces = workspaces();
-    for round in 0..6000 {
-        let n = if round % 20 == 0 { 10 } else { round % 8 };
-        let draw = if round % 2 == 0 { any } else { tiny };
+    let (mut in_rows, mut without, mut on_pixels) = (0, 0, 0);
+    for round in 0..8000 {
+        let draw = [any, tiny, crowded, ridge_lines][round % 4];
+        let n = if round % 20 < 4 { 10 } else { round / 4 % 8 };
         let bytes = draw(&mut random, n);
         let best = best(&bytes);
+        match best {
+            Ok(_) => in_rows += usize::from(shares_rows(&bytes)),
+            Err(61) => without += 1,
+            Err(_) => on_pixels += 1,
+        }
         for make in MAKERS {
             let lent = &workspaces[random.within(0, 3)];
-            let plate = made(*make, &bytes, lent).unwrap();
-            assert_eq!(count_of(&bytes, &plate), best);
+            let plate = made(*make, &bytes, lent);
+            assert_eq!(plate.map(|plate| count_of(&bytes, &plate)), best);
         }
     }
+    assert!(in_rows > 1000 && without > 200 && on_pixels > 200);
 }
 
 #[test]
@@ -259,6 +322,7 @@ fn families_are_made() {
     for family in SIZES.into_iter().flat_map(|n| families(n, 40)) {
         for bytes in &family.sheets {
             assert_eq!(usize::from(bytes[9]), family.points);
+            assert_eq!(shares_rows(bytes), family.name == "ridge lines");
             let count = |make: &Make| count_of(bytes, &made(*make, bytes, &zeros).unwrap());
             let first = count(&MAKERS[0]);
             assert!(MAKERS.iter().all(|make| count(make) == first));
@@ -315,14 +379,17 @@ fn refusals() {
 
 #[test]
 fn buffers_too_small() {
-    let sheet = any(&mut Random::new(7), 3);
+    let good = any(&mut Random::new(7), 3);
+    let without = like_p1(&[(0, 3), (2, 3), (4, 3)]);
     for make in MAKERS {
-        let mut workspace = vec![7; WORKSPACE];
-        let mut output = [0xa5; 36];
-        assert_eq!(make(&sheet, &mut output[1..], &mut workspace), Err(21));
-        assert_eq!(make(&sheet, &mut output, &mut workspace[1..]), Err(22));
-        assert_eq!(output, [0xa5; 36]);
-        assert_eq!(workspace, [7; WORKSPACE]);
-        assert!(make(&sheet, &mut output, &mut workspace).is_ok());
+        for (sheet, refusal) in [(&good, None), (&without, Some(61))] {
+            let mut workspace = vec![7; WORKSPACE];
+            let mut output = [0xa5; 36];
+            assert_eq!(make(sheet, &mut output[1..], &mut workspace), Err(21));
+            assert_eq!(make(sheet, &mut output, &mut workspace[1..]), Err(22));
+            assert_eq!(output, [0xa5; 36]);
+            assert_eq!(workspace, [7; WORKSPACE]);
+            assert_eq!(make(sheet, &mut output, &mut workspace).err(), refusal);
+        }
     }
 }
