@@ -426,10 +426,18 @@ impl Case {
     }
 }
 
+/// The case of this name.
+fn case(name: &str) -> &'static Case {
+    let case = CASES.iter().find(|case| case.name == name);
+    case.expect("a case has this name")
+}
+
 /// A load with 61 keeps the sheet before it: P1, then document 02 (c)'s sheet, then a list for P1.
 pub fn sheet_kept(report: &mut Report) -> Compared {
-    let p1 = sheet_bytes((20, 10), (4, 2), &[(17, 2, 3), (18, 4, 4), (19, 10, 7)]);
-    let crowded = sheet_bytes((20, 12), (4, 2), &[(17, 0, 3), (18, 2, 3), (19, 4, 3)]);
+    let (p1, crowded) = (
+        case("the desk on P1").sheet(),
+        case("no valid choice").sheet(),
+    );
     let buffers = Buffers::just_enough(3, Content::Greatest);
     let mut desks = Desks::fresh();
     same("the load of P1", desks.load(report, &p1, buffers)?, 0)?;

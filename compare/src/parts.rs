@@ -277,11 +277,6 @@ fn damaged_plates(random: &mut Random, report: &mut Report) -> Compared {
             plate = random_bytes(random, 2500);
             report.feature(NEVER_A_PLATE);
         }
-        7 if reverse_a_row(&mut plate) => {
-            report.feature(ROW_REVERSED);
-            let number = reading(report, &plate)?;
-            return same("the reading of a row reversed, and 43", number, 43);
-        }
         6 if stack_without_gap(&mut plate) => {
             report.feature(STACKED);
             let number = reading(report, &plate)?;
@@ -290,6 +285,11 @@ fn damaged_plates(random: &mut Random, report: &mut Report) -> Compared {
                 number,
                 43,
             );
+        }
+        7 if reverse_a_row(&mut plate) => {
+            report.feature(ROW_REVERSED);
+            let number = reading(report, &plate)?;
+            return same("the reading of a row reversed, and 43", number, 43);
         }
         _ => damage_plate(random, &mut plate),
     }

@@ -10,7 +10,7 @@ pub fn sheet(random: &mut Random) -> Vec<u8> {
 }
 
 /// A sheet of n points: crowded or wide, rows distinct or shared, columns in one of several ways.
-/// A few sheets with shared rows have fewer points, for want of pixels.
+/// Some sheets with shared rows have fewer points.
 pub fn sheet_of(random: &mut Random, n: u16) -> Vec<u8> {
     let label = (label_side(random), label_side(random));
     let bytes = match random.below(12) {
@@ -27,7 +27,7 @@ fn with_shared_rows(random: &mut Random, label: (u16, u16), n: u16) -> Vec<u8> {
     reference::random::shared_rows_sheet(random, map, label, n)
 }
 
-/// Points anywhere in a few rows: often no choice is valid.
+/// Points anywhere in a few rows, one left out if its pixel is taken: often no choice is valid.
 fn in_few_rows(random: &mut Random, label: (u16, u16), n: u16) -> Vec<u8> {
     let map = (map_side(random, label.0, 8), map_side(random, label.1, n));
     let least = (n / 3).clamp(1, map.1);

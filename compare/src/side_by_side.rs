@@ -99,9 +99,9 @@ fn workspace_after(
     buffers: Buffers,
     workspace: &Lent<u16>,
 ) -> Compared {
-    let (kept, message) = match number {
-        0 | 61 => (workspace.zeroed(), "the workspace is not just zero"),
-        _ => (workspace.untouched(), "a refusal wrote to the workspace"),
+    let (kept, message) = match reference::zeroes_workspace(number) {
+        true => (workspace.zeroed(), "the workspace is not just zero"),
+        false => (workspace.untouched(), "a refusal wrote to the workspace"),
     };
     must(kept, &format!("{call:?} with {buffers:?}: {message}"))?;
     for kind in [buffers.content.name(), length_name(buffers.workspace)] {

@@ -15,7 +15,7 @@ use Rattle.clash.specs.declared.Clash.{Clash}
 use Rattle.clash.specs.declared.Clash.the-variants.{None, Between}
 use Rattle.format.specs.Stretches.{stretchesOverlap}
 use Rattle.clash.specs.FirstClash.{isClash, orElse, clashIf, pairClash, ownClash, firstOf, orderedClash, laterClash, clashOf}
-use Rattle.clash.specs.ClashPixels.{first-none, none-first}
+use Rattle.clash.specs.ClashPixels.{no-clash, first-none, none-first}
 
 -- TWO LABELS, by their columns and then their rows
 
@@ -69,10 +69,6 @@ unfolding pairClash
 pair-leaders P S i j r a b e = rw (a, b) e
 
 -- THE FIRST CLASH, one by one
-
-no-clash : (c : Clash) → isClash c ≡ false → c ≡ None
-no-clash None e = refl
-no-clash (Between i j k) e = absurd (not-both refl e)
 
 or-clash : (c d : Clash) → isClash c ≡ true → c ≡ orElse c d
 or-clash None d e = absurd (not-both e refl)

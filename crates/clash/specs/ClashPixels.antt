@@ -26,6 +26,10 @@ use Rattle.clash.specs.FirstClash.{laterClash, clashOf, firstClash}
 none-between : {c : Clash} {i j : ℕ} {k : ClashKind} → c ≡ None → c ≡ Between i j k → ⊥
 none-between e q = not-both (ap isClash q) (ap isClash e)
 
+pub no-clash : (c : Clash) → isClash c ≡ false → c ≡ None
+no-clash None e = refl
+no-clash (Between i j k) e = absurd (not-both refl e)
+
 -- THE FIRST OF SEVERAL
 
 or-none : (c d : Clash) → orElse c d ≡ None → (c ≡ None) × (d ≡ None)

@@ -1,5 +1,5 @@
--- What load and mark answer and leave, on every value of the desk, reachable or not (document 01, "The desk"): the promises of the two
--- calls. Assumes nothing.
+-- What load and mark answer and leave, on every value of the desk, reachable or not (document 01, "The desk", and document 02 (c)): the
+-- promises of the two calls. Assumes nothing.
 use mathlib.Core.Path.{_≡_, refl, sym}
 use mathlib.Core.Bool.{Bool, true, false, cond, not, true≢false}
 use mathlib.Core.List.{List}

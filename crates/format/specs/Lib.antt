@@ -1,4 +1,4 @@
--- WHAT A READER MUST BELIEVE: the bytes of sheets and plates and the questions, as document 01 has them.
+-- WHAT A READER MUST BELIEVE: the bytes of sheets and plates and the questions, as documents 01 and 02 have them.
 pub mod Sizes
 pub mod Sheet
 pub mod Plate

@@ -32,7 +32,7 @@ outputFits s room = leb (12 + 8 * pointCount s) room
 abbrev pub choiceNo : List ℕ → ℕ
 choiceNo s = ask (feasibleB (pointsOf s)) 61 0
 
--- "Making, after the sheet", where `fits` answers 21, and then 61: 0 if there is no no.
+-- The sheet's questions, 21, which `fits` answers, 22, and then 61: 0 if there is no no.
 unfoldable pub choosingNo : List ℕ → Bool → ℕ → ℕ
 choosingNo s fits cells = thenNo (askedNo s fits cells) (choiceNo s)
 

@@ -1,6 +1,6 @@
 -- What document 02 (c) says of numbers: 61 comes exactly if no choice of the sheet is valid, the sheet's own questions never have it, and
 -- "Sheets with distinct rows get the answers they had". Assumes nothing.
-use mathlib.Core.Path.{_≡_, sym, _∙_}
+use mathlib.Core.Path.{_≡_, refl, sym, _∙_}
 use mathlib.Core.Bool.{Bool}
 use mathlib.Core.Logic.{_↔_}
 use mathlib.Core.List.{List}
@@ -15,7 +15,7 @@ use Rattle.labeling.specs.Greatest.{dec-feasible, distinct-feasible}
 use Rattle.labeling.specs.Decide.{decide, same, dec-and, dec-eq}
 use Rattle.format.specs.Sizes.{workspaceCells}
 use Rattle.format.specs.Sheet.{frameCount, mapWidth, mapHeight, labelWidth, labelHeight, pointCount, callNumber, column, row}
-use Rattle.format.specs.Sheet.{pointsOf, thenNo, upTo, bothUpTo, onMap, sameCall, samePixel, unlikeEarlier, pointNo, pointsNo}
+use Rattle.format.specs.Sheet.{pointsOf, ask, thenNo, upTo, bothUpTo, onMap, sameCall, samePixel, unlikeEarlier, pointNo, pointsNo}
 use Rattle.format.specs.Sheet.{questionsNo, sheetNo, plateSheetNo}
 use Rattle.format.specs.Accepted.{Accepted, SamePixel, none-sheet, dec-unlike}
 use Rattle.format.specs.Asking.{ask-most, then-most, none-then}
@@ -73,7 +73,10 @@ module _ (s : List ℕ) (before : ℕ) (low : before ≤ 22) (sheet : before ≡
   sixty-one : (thenNo before (choiceNo s) ≡ 61) ↔ ((before ≡ 0) × (Feasible (pointsOf s) → ⊥))
   sixty-one = (
     λ e. same before 0
-        (λ z. (z, λ f. let y : thenNo before (choiceNo s) ≡ 0 = rw (eq-eqb before 0 z) (none-choice s (sheet z) .of (f, tt)) in omega arith))
+        (λ z. (
+          z,
+          λ f. (let y : thenNo before (choiceNo s) ≡ 0 = rw (eq-eqb before 0 z) (none-choice s (sheet z) .of (f, tt)) in omega arith),
+        ))
         (λ ne. let y : thenNo before (choiceNo s) ≡ before = rw (ne-eqb before 0 ne) in absurd (omega (arith, low))),
     λ a. decide (feasibleB (pointsOf s))
         (λ t. absurd (a .1 (dec-feasible (pointsOf s) (sheet (a .0) .proper .label-width .0) .is t)))
@@ -98,10 +101,24 @@ load-61 s cells =
 abbrev pub sameRow : List ℕ → ℕ → ℕ → Bool
 sameRow s j i = eqb (row s j) (row s i)
 
--- Question 20 is answered as document 01's, "The row unlike every earlier one?"; and 61 never comes: making and loading have the numbers
--- of document 01's questions.
+-- Document 01's questions of position i: 20 is "The row unlike every earlier one?".
+unfoldable pub pointNoByRow : List ℕ → ℕ → ℕ
+pointNoByRow s i =
+    ask (upTo 9999 (callNumber s i)) 17
+    (ask (onMap s (column s i) (row s i)) 18
+    (ask (unlikeEarlier (sameCall s) i) 19
+    (ask (unlikeEarlier (sameRow s) i) 20
+    0)))
+
+-- The first no of the positions below m, by these.
+unfoldable pub pointsNoByRow : List ℕ → ℕ → ℕ
+pointsNoByRow s zero = 0
+pointsNoByRow s (suc m) = thenNo (pointsNoByRow s m) (pointNoByRow s m)
+
+-- Of bytes with distinct rows: point by point the number is that of document 01's questions (11 to 16, before that, are document 01's); and
+-- 61 never comes, so that a making and a load have the number of the questions before it.
 pub record AnswersKept (s : List ℕ) : Type 0 where
-  pub question-20 : (i : ℕ) → i < pointCount s → unlikeEarlier (samePixel s) i ≡ unlikeEarlier (sameRow s) i
+  pub points : pointsNo s (pointCount s) ≡ pointsNoByRow s (pointCount s)
   pub making : (room cells : ℕ) → makingNo s room cells ≡ askedNo s (outputFits s room) cells
   pub loading : (cells : ℕ) → loadNo s cells ≡ thenNo (sheetNo s) (workspaceNo cells)
 
@@ -113,16 +130,29 @@ module _ (s : List ℕ) (d : DistinctRows (pointsOf s)) (before : ℕ) (sheet : 
       (λ z. rw (eq-eqb before 0 z) (none-choice s (sheet z) .of (distinct-feasible (pointsOf s) d, tt) ∙ sym z))
       (λ ne. rw (ne-eqb before 0 ne))
 
+-- 20 is answered yes by both
+module _ (s : List ℕ) (d : DistinctRows (pointsOf s)) where
+  alone : (j i : ℕ) → j < i → i < pointCount s → row s j ≡ row s i → ⊥
+  alone j i k l e = let q = d .apart j i (omega arith) l e in omega arith
+
+  point-same : (i : ℕ) → i < pointCount s → pointNo s i ≡ pointNoByRow s i
+  unfolding pointNo pointNoByRow
+  point-same i l =
+      rw (
+        dec-unlike (samePixel s) (SamePixel s) i (λ j. dec-and (dec-eq _ _) (dec-eq _ _)) .of (λ j k e. alone j i k l (e .0)),
+        dec-unlike (sameRow s) (λ j i. row s j ≡ row s i) i (λ j. dec-eq _ _) .of (λ j k e. alone j i k l e),
+      )
+
+  points-same : (m : ℕ) → m ≤ pointCount s → pointsNo s m ≡ pointsNoByRow s m
+  unfolding pointsNo pointsNoByRow
+  points-same zero l = refl
+  points-same (suc m) l = rw (points-same m (omega arith), point-same m l)
+
 pub distinct-rows-answers : (s : List ℕ) → DistinctRows (pointsOf s) → AnswersKept s
 unfolding makingNo choosingNo loadNo
 distinct-rows-answers s d = record {
-  question-20 = λ i l.
-      dec-unlike (samePixel s) (SamePixel s) i (λ j. dec-and (dec-eq _ _) (dec-eq _ _)) .of (λ j k e. alone j i k l (e .0))
-      ∙ sym (dec-unlike (sameRow s) (λ j i. row s j ≡ row s i) i (λ j. dec-eq _ _) .of (λ j k e. alone j i k l e));
+  points = points-same s d (pointCount s) (omega arith);
   making = λ room cells. never-61 s d (askedNo s (outputFits s room) cells) (λ z. none-asked s _ cells .is z .0);
   loading = λ cells.
       never-61 s d (thenNo (sheetNo s) (workspaceNo cells)) (λ z. none-then (none-sheet s) (none-workspace cells) .is z .0);
 }
-  where
-    alone : (j i : ℕ) → j < i → i < pointCount s → row s j ≡ row s i → ⊥
-    alone j i k l e = let q = d .apart j i (omega arith) l e in omega arith

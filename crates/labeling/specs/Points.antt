@@ -1,4 +1,4 @@
--- Points, pixels, choices, and the margin rule (document 01, "Marks and pixels", and document 02 (b)). Assumes nothing.
+-- Points, pixels, choices, and the margin rule (document 01, "Marks and pixels", and document 02 (b) and (c)). Assumes nothing.
 use mathlib.Core.Path.{_≡_}
 use mathlib.Core.Bool.{Bool, false, cond, _&&_, _||_}
 use mathlib.Core.List.{List, [], _∷_}
@@ -34,7 +34,7 @@ pub data Pixel : Type 0 where
   atColumn : (column row : ℕ) → Pixel
   inMargin : (d row : ℕ) → Pixel
 
--- THE OUTSIDE POINTS, "from the highest row down"; of one row the smaller column first.
+-- THE OUTSIDE POINTS, "from the highest row down"; those "of one row stand with the smaller column first" (document 02 (c)).
 
 -- Position i stands before position j.
 unfoldable pub before : Points → ℕ → ℕ → Bool

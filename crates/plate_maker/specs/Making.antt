@@ -1,5 +1,5 @@
--- What making answers, writes and leaves: the plate maker's promise (document 01, "Questions in their order" and "Agreement").
--- Assumes nothing.
+-- What making answers, writes and leaves: the plate maker's promise (document 01, "Questions in their order" and "Agreement", and document
+-- 02 (c)). Assumes nothing.
 use mathlib.Core.Path.{_≡_}
 use mathlib.Core.Bool.{Bool, true, false, cond, not}
 use mathlib.Core.List.{List, _++_}

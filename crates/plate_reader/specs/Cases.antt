@@ -1,7 +1,6 @@
 -- Document 01's cases P1 to P10, labels at the map's edges (document 02 (a)), stacked outer labels (document 02 (b)) and shared rows
--- (document 02 (c)), from the sheet's bytes: one table, one theorem. What the theorem says is in the words of labeling (valid and best over pixels) and of format's Plate.antt;
--- the tests only compute it.
--- Assumes nothing.
+-- (document 02 (c)), from the sheet's bytes: one table, one theorem. What the theorem says is in the words of labeling (valid and best over
+-- pixels) and of format's Plate.antt; the tests only compute it. Assumes nothing.
 use mathlib.Core.Path.{_≡_, refl, sym, ap, _∙_}
 use mathlib.Core.Bool.{Bool, true, false, cond, _&&_}
 use mathlib.Core.List.{List, [], _∷_, _++_}
@@ -204,11 +203,25 @@ cases =
       expected = clashes 0 1 TwoLeaders;
       added = 1 ∷ 2 ∷ 2 ∷ 0 ∷ 0 ∷ 1 ∷ 1 ∷ [];
     } ∷
-    -- the label of (3,3), now the first, is on the leader of (8,3), the third; the second and the third are two leaders, and come later
+    -- the label of (3,3), the first here, is on the leader of (8,3), the third; the second and the third are two leaders, and come later
     record {
       sheet = sheet 4 2 3 (at 1 3 3 (at 2 2 3 (at 3 8 3 [])));
       inside = 0 ∷ [];
       expected = clashes 0 2 LabelAndLeader;
+      added = 1 ∷ 0 ∷ 2 ∷ 1 ∷ 0 ∷ 2 ∷ 1 ∷ [];
+    } ∷
+    -- (2,3) and (8,3) are two leaders, and (18,7), inside, leaves the map: the two leaders come first
+    record {
+      sheet = sheet 4 2 3 (at 1 2 3 (at 2 8 3 (at 3 18 7 [])));
+      inside = 2 ∷ [];
+      expected = clashes 0 1 TwoLeaders;
+      added = 1 ∷ 2 ∷ 2 ∷ 0 ∷ 0 ∷ 1 ∷ 1 ∷ [];
+    } ∷
+    -- (18,7) first: its overhang comes first
+    record {
+      sheet = sheet 4 2 3 (at 1 18 7 (at 2 2 3 (at 3 8 3 [])));
+      inside = 0 ∷ [];
+      expected = clashes 0 0 Overhang;
       added = 1 ∷ 0 ∷ 2 ∷ 1 ∷ 0 ∷ 2 ∷ 1 ∷ [];
     } ∷ []
 
@@ -237,19 +250,19 @@ Each (c ∷ cs) = Right c × Each cs
 
 -- THE TESTS
 
--- A number for each kind, and back.
-abbrev kindNumber : ClashKind → ℕ
-kindNumber Labels = 0
-kindNumber LabelAndLeader = 1
-kindNumber Overhang = 2
-kindNumber TwoLeaders = 3
+-- The place of each kind in the enum, and back.
+abbrev kindPlace : ClashKind → ℕ
+kindPlace Labels = 0
+kindPlace LabelAndLeader = 1
+kindPlace Overhang = 2
+kindPlace TwoLeaders = 3
 
-abbrev kindOf : ℕ → ClashKind
-kindOf k = cond (eqb k 0) Labels (cond (eqb k 1) LabelAndLeader (cond (eqb k 2) Overhang TwoLeaders))
+abbrev kindAt : ℕ → ClashKind
+kindAt k = cond (eqb k 0) Labels (cond (eqb k 1) LabelAndLeader (cond (eqb k 2) Overhang TwoLeaders))
 
 abbrev sameClash : Clash → ℕ → ℕ → ClashKind → Bool
 sameClash None i j k = false
-sameClash (Between a b m) i j k = eqb a i && (eqb b j && eqb (kindNumber m) (kindNumber k))
+sameClash (Between a b m) i j k = eqb a i && (eqb b j && eqb (kindPlace m) (kindPlace k))
 
 abbrev saysB : Expected → Points → Choice → Bool
 saysB onlyBest P S = onlyBestB P oneEach S
@@ -268,14 +281,14 @@ abbrev eachB : List Case → Bool
 eachB [] = true
 eachB (c ∷ cs) = rightB c && eachB cs
 
-kind-back : (k : ClashKind) → kindOf (kindNumber k) ≡ k
+kind-back : (k : ClashKind) → kindAt (kindPlace k) ≡ k
 kind-back Labels = refl
 kind-back LabelAndLeader = refl
 kind-back Overhang = refl
 kind-back TwoLeaders = refl
 
-same-kind : (m k : ClashKind) → eqb (kindNumber m) (kindNumber k) ≡ true → m ≡ k
-same-kind m k e = sym (kind-back m) ∙ ap kindOf (eqb-true (kindNumber m) (kindNumber k) e) ∙ kind-back k
+same-kind : (m k : ClashKind) → eqb (kindPlace m) (kindPlace k) ≡ true → m ≡ k
+same-kind m k e = sym (kind-back m) ∙ ap kindAt (eqb-true (kindPlace m) (kindPlace k) e) ∙ kind-back k
 
 same-clash : (c : Clash) (i j : ℕ) (k : ClashKind) → sameClash c i j k ≡ true → c ≡ Between i j k
 same-clash None i j k e = absurd (not-both e refl)

@@ -2,10 +2,12 @@
 pub mod PlateQuestions
 pub mod Stretch
 pub mod PlateAnswers
--- THEOREMS: demand 2, the reader's half; what the questions ask, as facts.
+-- THEOREMS: demand 2, the reader's half; what the questions ask, as facts; the numbers where rows are shared.
 pub mod DemandTwoReader
 pub mod PlateSections
--- Worked cases, each file a table and its theorem: P1 to P10, single pixels, and sheets and plates that are refused.
+pub mod PlateNumbers
+-- Worked cases, each file a table and its theorem: P1 to P10 and those of document 02, single pixels, and sheets and plates that are
+-- refused.
 pub mod Cases
 pub mod CasePixels
 pub mod Refusals

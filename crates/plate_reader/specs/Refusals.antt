@@ -2,24 +2,21 @@
 -- both sides, and the order of the questions where a sheet has several that are answered no. Then plates whose outside pairs aren't the
 -- rule's, and sheets without a valid choice. Assumes nothing.
 use mathlib.Core.Path.{_≡_, refl}
-use mathlib.Core.Bool.{Bool, true, not, _&&_}
+use mathlib.Core.Bool.{Bool, true, _&&_}
 use mathlib.Core.List.{List, [], _∷_, _++_}
-use Prim.Native.Nat.{ℕ, zero, suc, _≤_, pred}
+use Prim.Native.Nat.{ℕ, zero, suc, pred}
 use lib.Dec.{eqb}
 use borrow.Author.Tests.{eqb-true}
-use native.Mathlib.Omega.{arith}
 use Rattle.labeling.specs.Points.{before, insert, outsideBelow, outside, nextMargin, placedFrom, placed, among}
 use Rattle.labeling.specs.Conflicts.{conflictB, every, apartB, withinB, validB}
 use Rattle.labeling.specs.Best.{weightBelow, weight, put, bestFrom, best, Feasible}
 use Rattle.labeling.specs.Decide.{and-left, and-right}
 use Rattle.format.specs.Sizes.{workspaceCells}
-use Rattle.format.specs.Sheet.{twoBytes, pointCount, pointsOf, unlikeEarlier, pointNo, pointsNo, questionsNo, sheetNo, plateSheetNo}
-use Rattle.format.specs.Asking.{ask-most, then-most}
+use Rattle.format.specs.Sheet.{twoBytes, pointsOf, unlikeEarlier, pointNo, pointsNo, questionsNo, sheetNo, plateSheetNo}
 use Rattle.format.specs.MakingQuestions.{askedNo, choosingNo, makingNo, loadNo}
-use Rattle.format.specs.SharedRows.{plate-sheet-most, making-61}
-use Rattle.format.specs.Plate.{choiceOf, pairs}
+use Rattle.format.specs.SharedRows.{making-61}
+use Rattle.format.specs.Plate.{pairs}
 use Rattle.format.specs.Ascending.{ascending}
-use Rattle.clash.specs.FirstClash.{isClash, firstClash}
 use Rattle.plate_reader.specs.PlateQuestions.{sheetOf, insideList, outsidePairs, sectionsFit, pairsRight, sectionsNo, plateNo}
 use Rattle.plate_reader.specs.Cases.{at, sheet, sheet1, stacked, touching, ridge}
 
@@ -153,17 +150,3 @@ crowded-none = (
   making-61 crowded 36 workspaceCells .0 (crowded-61 .0 .making) .1,
   making-61 crowdedFour 44 workspaceCells .0 (crowded-61 .1 .making) .1,
 )
-
--- THE READER NEVER ANSWERS 61: its numbers are at most 44
-
-sections-most : (p : List ℕ) → sectionsNo p ≤ 44
-unfolding sectionsNo
-sections-most p =
-    ask-most (sectionsFit p) 44 41 _ (omega arith)
-    (ask-most (ascending (pointCount p) (insideList p)) 44 42 _ (omega arith)
-    (ask-most (pairsRight (pointsOf (sheetOf p)) (choiceOf (insideList p)) (outsidePairs p)) 44 43 _ (omega arith)
-    (ask-most (not (isClash (firstClash (pointsOf (sheetOf p)) (choiceOf (insideList p))))) 44 44 0 (omega arith) (omega arith))))
-
-pub plate-most : (p : List ℕ) → plateNo p ≤ 44
-unfolding plateNo
-plate-most p = then-most 44 (plateSheetNo p) (sectionsNo p) (omega (arith, plate-sheet-most p)) (sections-most p)

@@ -83,7 +83,8 @@ returns-2 c =
     let clear = c .before .before .before .before .before .before .before .before .before .before in
     let solved = clear .before .before .before .before .solve .ensures .0 in
     let lists = rw (c .before .before .before .point-count .ensures) at (c .two-lists .ensures) in (
-      lists-chosen _ _ _ _ (fine (start-of clear)) (ready (limits-of clear)) solved (c .before .before .before .before .before .before .before .if1 .left)
+      lists-chosen _ _ _ _ (fine (start-of clear)) (ready (limits-of clear)) solved
+          (c .before .before .before .before .before .before .before .if1 .left)
           (record { at = c .before .before .before .before .by-position .ensures }) (c .two-lists .result) lists,
       zero clear,
     )
