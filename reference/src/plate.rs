@@ -122,7 +122,8 @@ pub fn listing(sheet: &[u8], choice: Choice) -> String {
         Ok(sheet) => sheet,
         Err(number) => return format!("refused {number}\n"),
     };
-    if best_choice(&sheet).is_none() {
+    // Where the choice is valid, no search is needed.
+    if !valid(&sheet, choice) && best_choice(&sheet).is_none() {
         return "refused 61\n".to_string();
     }
     let mut text = format!(

@@ -1,28 +1,27 @@
 -- A load with 61 keeps the sheet before it: P1, and then document 02 (c)'s sheet without a valid choice. Assumes nothing.
-use mathlib.Core.Path.{_≡_, refl, ap, _∙_}
+use mathlib.Core.Path.{_≡_, ap, _∙_}
 use mathlib.Core.Bool.{true}
-use mathlib.Core.List.{List}
+use mathlib.Core.List.{List, [], _∷_}
 use mathlib.Core.Option.{some}
 use Prim.Native.Nat.{ℕ}
 use lib.ListN.{length, replicate}
 use native.Mathlib.Omega.{arith}
-use Rattle.labeling.specs.Conflicts.{conflictB, every, apartB, withinB, validB}
-use Rattle.labeling.specs.Best.{weightBelow, weight, put, bestFrom, best}
 use Rattle.format.specs.Sizes.{workspaceCells}
-use Rattle.format.specs.Sheet.{twoBytes, unlikeEarlier, pointNo, pointsNo, questionsNo, sheetNo}
-use Rattle.format.specs.MakingQuestions.{workspaceAfter, loadNo}
-use Rattle.plate_reader.specs.Cases.{sheet1}
+use Rattle.format.specs.Accepted.{accepted}
+use Rattle.format.specs.MakingQuestions.{workspaceAfter, loadNo, none-load}
+use Rattle.format.specs.Plate.{choiceOf}
+use Rattle.plate_reader.specs.Cases.{sheet1, all-right}
 use Rattle.plate_reader.specs.Refusals.{crowded, crowded-61}
 use Rattle.desk.specs.Desk.{loadOf, loadOutcome}
 use Rattle.desk.specs.Calls.{load, Calls, noCalls, _andThen_, deskAfter, lastSheet}
 use Rattle.desk.specs.DemandThree.{LoadRight}
 use Rattle.desk.specs.DemandThreeProof.{demand-three}
 
--- P1 is loaded.
+-- P1 is loaded: it is accepted, and its best choice is valid.
 first-loaded : loadNo sheet1 workspaceCells ≡ 0
-unfolding twoBytes every unlikeEarlier pointNo pointsNo questionsNo sheetNo loadNo
-    conflictB apartB withinB validB weightBelow weight put bestFrom best
-first-loaded = refl
+first-loaded =
+    let c = all-right .0 in
+    none-load sheet1 workspaceCells .of ((accepted sheet1 (c .accepted), (omega arith, tt)), ((choiceOf (1 ∷ 2 ∷ []), c .expected .best .valid), tt))
 
 -- With a workspace w that is just large enough.
 module _ (w : List ℕ) (cells : length w ≡ workspaceCells) where
