@@ -41,7 +41,7 @@ pub fn check_sheet(sheet: &[u8]) -> Result<usize, u8> {
         return Err(16);
     }
     let mut calls = [0; MOST];
-    let mut pixels = [(0, 0); MOST];
+    let mut pixels = [0; MOST];
     for (i, point) in sheet[10..].chunks_exact(6).enumerate() {
         let (call, column, row) = (number(point, 0), number(point, 2), number(point, 4));
         if !(1..=9999).contains(&call) {
@@ -53,11 +53,12 @@ pub fn check_sheet(sheet: &[u8]) -> Result<usize, u8> {
         if calls[..i].contains(&call) {
             return Err(19);
         }
-        if pixels[..i].contains(&(row, column)) {
+        let pixel = u32::from(row) << 16 | u32::from(column);
+        if pixels[..i].contains(&pixel) {
             return Err(20);
         }
         calls[i] = call;
-        pixels[i] = (row, column);
+        pixels[i] = pixel;
     }
     Ok(n)
 }

@@ -2,17 +2,18 @@
 use mathlib.Core.Path.{_≡_, refl, sym, ap, _∙_}
 use mathlib.Core.Bool.{Bool, true, false, not}
 use mathlib.Core.List.{List}
-use Prim.Native.Nat.{ℕ, zero, suc, _+_, _≤_, _<_}
+use Prim.Native.Nat.{ℕ, zero, suc, _+_, _*_, _≤_, _<_}
 use lib.Dec.{leb}
-use borrow.Author.Tests.{eq-eqb, ne-eqb}
+use lib.ListN.{length, getD, List·getD-eq-default}
+use borrow.Author.Tests.{eq-eqb, ne-eqb, leb-true}
 use native.Mathlib.Omega.{arith}
 use native.Mathlib.Numerals.{add-one}
 use Rattle.labeling.specs.Points.{Points, nextMargin}
 use Rattle.labeling.specs.Conflicts.{every}
-use Rattle.labeling.specs.Decide.{not-both, decide, same}
+use Rattle.labeling.specs.Decide.{not-both, decide, same, less, and-left}
 use Rattle.labeling.specs.Tests.{every-of, every-is}
 use Rattle.format.specs.Answers.{outcomeOf}
-use Rattle.format.specs.Sheet.{unlikeEarlier, pointNo, pointsNo}
+use Rattle.format.specs.Sheet.{twoBytes, callNumber, upTo, unlikeEarlier, pointNo, pointsNo}
 
 -- one earlier position is like i: it is not unlike every earlier one
 pub not-unlike : (like : ℕ → ℕ → Bool) (i j : ℕ) → j < i → like j i ≡ true → false ≡ unlikeEarlier like i
@@ -29,6 +30,17 @@ unfolding unlikeEarlier
 unlike like i m l f = sym (every-of (λ j. not (like j i)) i (λ j k. ap not (f j (omega arith))))
 
 -- POINT BY POINT
+
+-- a call number that is allowed isn't 0, so its place is in the sheet: the points before it are there, whole
+pub whole-before : (s : List ℕ) (i : ℕ) → upTo 9999 (callNumber s i) ≡ true → 10 + 6 * i ≤ length s
+unfolding twoBytes
+whole-before s i e =
+    less (length s) (10 + 6 * i)
+    (λ l. let some : 1 ≤ callNumber s i = leb-true _ _ (and-left _ _ e) in
+    let low : getD s (10 + 6 * i) 0 ≡ 0 = List·getD-eq-default s 0 (omega (arith, l)) in
+    let high : getD s (10 + 6 * i + 1) 0 ≡ 0 = List·getD-eq-default s 0 (omega (arith, l)) in
+    absurd (omega (arith, some, low, high)))
+    (λ l. l)
 
 -- one more point without a no
 pub points-more : (s : List ℕ) (m : ℕ) → pointsNo s m ≡ 0 → pointNo s m ≡ 0 → pointsNo s (m + 1) ≡ 0

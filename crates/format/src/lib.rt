@@ -1,9 +1,8 @@
 // The bytes of sheets and plates.
 ghost use mathlib.Core.Path.{_≡_};
-ghost use Prim.Native.Nat.{_+_, _<_};
-ghost use mathlib.Core.Bool.{_&&_};
-ghost use lib.Dec.{ltb, leb, eqb};
-ghost use lib.ListN.{getD};
+ghost use Prim.Native.Nat.{_+_, _*_, _<_, _≤_};
+ghost use lib.Dec.{ltb, leb};
+ghost use lib.ListN.{getD, length};
 ghost use Rattle.format.specs.Sheet.{twoBytes, sheetLength, mapWidth, mapHeight, labelWidth, labelHeight, pointCount};
 ghost use Rattle.format.specs.Sheet.{callNumber, column as columnOf, row as rowOf, pointsOf};
 ghost use Rattle.format.specs.Sheet.{upTo, bothUpTo, onMap, sameCall, samePixel, unlikeEarlier, pointNo, pointsNo};
@@ -11,6 +10,7 @@ ghost use Rattle.format.specs.Sheet.{questionsNo, sheetNo};
 ghost use Rattle.labeling.specs.Points.{nextMargin};
 ghost use Rattle.labeling.specs.Marks.{labelOnMapB};
 ghost use Rattle.format.specs.Answers.{sheetOutcome, outcomeOf};
+ghost use Rattle.format.specs.PixelNumber.{PixelNumber};
 ghost use Rattle.format.specs.Reader.{pointAt};
 use reader::SheetPoint;
 use reader::left;
@@ -55,13 +55,21 @@ pub fn byte_at(bytes: &[u8], at: usize) -> u8
     0 // past the end
 }
 
+// The two-byte number at a place, low byte first, where both bytes are there.
+fn both_bytes(bytes: &[u8], at: usize) -> u16
+    requires { ⌜ at + 1 < length (now bytes) ⌝ }
+    ensures { λ r. ⌜ r ≡ twoBytes (now (bytes .entry)) at ⌝ }
+{
+    wide(bytes[at]) + 256 * wide(bytes[at + 1])
+}
+
 // The two-byte number at a place of at most 65,535, low byte first. A byte past the end is 0.
 fn two_bytes(bytes: &[u8], at: usize) -> u16
     requires { ⌜ at < 65536 ⌝ }
     ensures { λ r. ⌜ r ≡ twoBytes (now (bytes .entry)) at ⌝ }
 {
     if at + 1 < bytes.len() {
-        return wide(bytes[at]) + 256 * wide(bytes[at + 1]);
+        return both_bytes(bytes, at);
     }
     wide(byte_at(bytes, at))
 }
@@ -193,14 +201,15 @@ fn on_map(sheet: &[u8], point: SheetPoint) -> bool
     false
 }
 
-// The call number of a position is unlike every earlier one.
+// The call number of a position is unlike every earlier one. The earlier points are there, whole.
 fn own_call_number(sheet: &[u8], position: u8) -> bool
+    requires { ⌜ 10 + 6 * position ≤ length (now sheet) ⌝ }
     ensures { λ r. ⌜ r ≡ unlikeEarlier (sameCall (now (sheet .entry))) position ⌝ }
 {
     let own = call_number(sheet, position);
     let mut earlier: u8 = 0;
     while earlier < position {
-        if call_number(sheet, earlier) == own {
+        if both_bytes(sheet, 10 + 6 * earlier as usize) == own {
             return false;
         }
         earlier += 1;
@@ -208,25 +217,33 @@ fn own_call_number(sheet: &[u8], position: u8) -> bool
     true
 }
 
-// A position stands on the pixel in column x and row y.
-fn stands_on(sheet: &[u8], position: u8, x: u16, y: u16) -> bool
-    ensures { λ r. ⌜ r ≡ (eqb (rowOf (now (sheet .entry)) position) y && eqb (columnOf (now (sheet .entry)) position) x) ⌝ }
+// A pixel as one number.
+fn pixel_number(x: u16, y: u16) -> u32
+    ensures { λ r. ⌜ PixelNumber x y r ⌝ }
 {
-    if row(sheet, position) == y {
-        return column(sheet, position) == x;
-    }
-    false
+    x as u32 + 65536 * y as u32
 }
 
-// No earlier position stands on the pixel of a position.
+// The pixel of a position whose point is there, whole.
+fn pixel_there(sheet: &[u8], position: u8) -> u32
+    requires { ⌜ 16 + 6 * position ≤ length (now sheet) ⌝ }
+    ensures { λ r. ⌜ PixelNumber (columnOf (now (sheet .entry)) position) (rowOf (now (sheet .entry)) position) r ⌝ }
+{
+    pixel_number(
+        both_bytes(sheet, 12 + 6 * position as usize),
+        both_bytes(sheet, 14 + 6 * position as usize),
+    )
+}
+
+// No earlier position stands on the pixel of a position. The earlier points are there, whole.
 fn own_pixel(sheet: &[u8], position: u8) -> bool
+    requires { ⌜ 10 + 6 * position ≤ length (now sheet) ⌝ }
     ensures { λ r. ⌜ r ≡ unlikeEarlier (samePixel (now (sheet .entry))) position ⌝ }
 {
-    let x = column(sheet, position);
-    let y = row(sheet, position);
+    let own = pixel_number(column(sheet, position), row(sheet, position));
     let mut earlier: u8 = 0;
     while earlier < position {
-        if stands_on(sheet, earlier, x, y) {
+        if pixel_there(sheet, earlier) == own {
             return false;
         }
         earlier += 1;

@@ -24,13 +24,22 @@ call-number-requires c κs = search needs
 loop-holds : tie.Need-loop-holds Inv-loop μ-loop
 loop-holds c = (search needs, search needs, λ j l. absurd (omega arith))
 
-call-number-requires-2 : tie.Need-call-number-requires-2 Inv-loop μ-loop
-call-number-requires-2 c κs = search needs
+cast-both-bytes : tie.Need-cast-both-bytes Inv-loop μ-loop
+cast-both-bytes c = search needs
+
+mul-both-bytes : tie.Need-mul-both-bytes Inv-loop μ-loop
+mul-both-bytes c = search needs
+
+add-both-bytes : tie.Need-add-both-bytes Inv-loop μ-loop
+add-both-bytes c = search needs
+
+both-bytes-requires : tie.Need-both-bytes-requires Inv-loop μ-loop
+both-bytes-requires c κs = search needs
 
 returns : tie.Need-returns Inv-loop μ-loop
 returns c =
     let loop = c .before .before .before .loop in
-    not-unlike _ _ (loop .earlier) (omega arith) (eq-eqb _ _ (sym (c .before .call-number2 .ensures) ∙ c .if1 .taken ∙ loop .inv .1))
+    not-unlike _ _ (loop .earlier) (omega arith) (eq-eqb _ _ (sym (c .before .both-bytes .ensures) ∙ c .if1 .taken ∙ loop .inv .1))
 
 add-earlier : tie.Need-add-earlier Inv-loop μ-loop
 add-earlier c = search needs
@@ -43,7 +52,7 @@ loop-again c = (
   search needs,
   search needs,
   below-more _ _ (c .before .before .before .loop .inv .2)
-      (ne-eqb _ _ (λ e. c .if1 .left (c .before .call-number2 .ensures ∙ e ∙ sym (c .before .before .before .loop .inv .1)))),
+      (ne-eqb _ _ (λ e. c .if1 .left (c .before .both-bytes .ensures ∙ e ∙ sym (c .before .before .before .loop .inv .1)))),
 )
 
 returns-2 : tie.Need-returns-2 Inv-loop μ-loop
@@ -57,7 +66,10 @@ own-call-number-spec =
     μ-loop
     call-number-requires
     loop-holds
-    call-number-requires-2
+    cast-both-bytes
+    mul-both-bytes
+    add-both-bytes
+    both-bytes-requires
     returns
     add-earlier
     loop-less

@@ -1,9 +1,12 @@
 -- `format::point_no` meets its contract. Assumes nothing.
 use borrow.Author.Needs.{needs}
 use mathlib.Core.Path.{refl, ap, _∙_}
+use Prim.Native.Nat.{_+_, _*_, _≤_}
+use lib.ListN.{length}
 use Rattle.format.specs.Sheet.{upTo, onMap, pointNo}
-use Rattle.format.specs.Asking.{Rung, first-of, Answer, answers, past-answer, stops-answer}
+use Rattle.format.specs.Asking.{on, Rung, first-of, Answer, answers, past-answer, stops-answer}
 use Rattle.format.specs.declared.reader.SheetPoint.{SheetPoint}
+use Rattle.format.proofs.Laws.{whole-before}
 use Rattle.format.proofs.point_no.Statement.{statement}
 use Rattle.format.proofs.point_no.Tie as tie
 
@@ -24,6 +27,12 @@ past-17 c =
     let a = c .before .before .before .args in
     past-answer (first-of (pointNo (a .sheet .now) (a .position))) (allowed (c .before)) 17 _ refl (c .if1 .left)
 
+-- past 17 the points before are there, whole
+there : (c : tie.Else1) → let a = c .before .before .before .args in 10 + 6 * a .position ≤ length (a .sheet .now)
+there c =
+    let a = c .before .before .before .args in
+    whole-before (a .sheet .now) (a .position) (on _ _ (allowed (c .before) .right) (c .if1 .left))
+
 on-map-requires : tie.Need-on-map-requires
 on-map-requires c κs = search needs
 
@@ -42,7 +51,7 @@ unfolding pointNo
 past-18 c = past-answer (past-17 (c .before .before)) (on-the-map (c .before)) 18 _ refl (c .if2 .left)
 
 own-call-number-requires : tie.Need-own-call-number-requires
-own-call-number-requires c κs = search needs
+own-call-number-requires c κs = there (c .before .before)
 
 returns-3 : tie.Need-returns-3
 unfolding pointNo
@@ -53,7 +62,7 @@ unfolding pointNo
 past-19 c = past-answer (past-18 (c .before .before)) (answers (c .before .own-call-number .ensures)) 19 _ refl (c .if3 .left)
 
 own-pixel-requires : tie.Need-own-pixel-requires
-own-pixel-requires c κs = search needs
+own-pixel-requires c κs = there (c .before .before .before .before)
 
 returns-4 : tie.Need-returns-4
 unfolding pointNo
