@@ -16,14 +16,16 @@ use Rattle.labeling.specs.Best.{bestCount}
 use Rattle.format.specs.Sheet.{pointCount, pointsOf, sheetNo}
 use Rattle.format.specs.Accepted.{accepted}
 use Rattle.format.specs.Answers.{outcomeOf}
-use Rattle.format.specs.Plate.{choiceOf}
+use Rattle.format.specs.Plate.{choiceOf, bestChoiceOf, bestPlate}
+use Rattle.format.specs.BestPlate.{best-chosen-counts}
 use Rattle.clash.specs.declared.ClashKind.{ClashKind}
 use Rattle.clash.specs.declared.Clash.{Clash}
 use Rattle.clash.specs.declared.Clash.the-variants.{None, Between}
 use Rattle.clash.specs.FirstClash.{firstClash}
 use Rattle.plate_reader.specs.PlateQuestions.{insideCount}
 use Rattle.format.specs.MakingQuestions.{askedNo, choosingNo, makingNo, loadNo, workspaceAfter, none-load}
-use Rattle.plate_maker.specs.Making.{makeOutcome, BestOutput, Making}
+use Rattle.plate_maker.specs.Making.{makeOutcome, Making}
+use Rattle.plate_maker.specs.MakingLaws.{making-workspace, made-output}
 use Rattle.plate_maker.specs.declared.MakeAnswer.{MakeAnswer}
 use Rattle.plate_maker.specs.declared.MakeAnswer.the-variants.{Made, Refused as RefusedMaking}
 use Rattle.desk.specs.Questions.{listCount, aboveBefore, entryNo, entriesNo}
@@ -131,7 +133,7 @@ module _ (s o w o′ w′ : List ℕ) (answer : MakeAnswer) (blank : o ≡ blank
       record {
         outcome = ap loadOutcome (q .1) ∙ f ∙ ap outcomeOf same-questions;
         desk = q .0 ∙ ap (λ a. loadedDesk a d s) (sym (q .1));
-        workspace = n .workspace ∙ ap (λ a. workspaceAfter (loadOutcome a .no) w) (sym (q .1));
+        workspace = making-workspace n ∙ ap (λ a. workspaceAfter (loadOutcome a .no) w) (sym (q .1));
       }
 
   made-accepted : (r : ℕ) → answer ≡ Made r → loadNo s (length w) ≡ 0
@@ -141,11 +143,11 @@ module _ (s o w o′ w′ : List ℕ) (answer : MakeAnswer) (blank : o ≡ blank
   made-short r e = let a = none-load s (length w) .is (made-accepted r e) .0 .0 in let l = a .long in let f = a .proper .few in omega arith
 
   made-count : (r : ℕ) → answer ≡ Made r → insideCount o′ ≡ bestCount (pointsOf s)
+  unfolding bestPlate
   made-count r e =
-      let a = none-load s (length w) .is (made-accepted r e) .0 .0 in
+      let a = none-load s (length w) .is (made-accepted r e) in
       let n : Making s o w (Made r) o′ w′ = rw e at m in
-      let b : BestOutput s o o′ = n .output in
-      ap insideCount (b .plate) ∙ plate-count s (b .choice) a _ ∙ b .best
+      ap insideCount (made-output n) ∙ plate-count s (bestChoiceOf s) (a .0 .0) _ ∙ best-chosen-counts s (a .0 .0) (a .1 .0)
 
   pub load-made : (d e : Desk) (held : Held) (r best : ℕ) →
       answer ≡ Made r →
@@ -158,5 +160,5 @@ module _ (s o w o′ w′ : List ℕ) (answer : MakeAnswer) (blank : o ≡ blank
       record {
         outcome = rw (made-accepted r h);
         desk = c ∙ ap (withHeld d) (f ∙ ap (heldOf s) (q ∙ made-count r h));
-        workspace = n .workspace;
+        workspace = making-workspace n;
       }

@@ -14,21 +14,21 @@ use Rattle.labeling.specs.Points.{Choice}
 use Rattle.labeling.specs.Marks.{Valid}
 use Rattle.labeling.specs.Best.{weight, count, Feasible, bestCount}
 use Rattle.labeling.specs.Agree.{valid-agree}
-use Rattle.labeling.specs.Greatest.{best-count-most, best-count-reached}
+use Rattle.labeling.specs.Greatest.{best-counts, best-count-most}
 use Rattle.labeling.specs.Decide.{not-both, decide}
 use Rattle.format.specs.Sheet.{pointCount, pointsOf}
 use Rattle.format.specs.Accepted.{Accepted}
-use Rattle.format.specs.Plate.{choiceOf, insideBelow, plateOf}
-use Rattle.format.specs.PlateLength.{inside-length, bestLength}
+use Rattle.format.specs.Plate.{choiceOf, insideBelow, bestChoiceOf, bestPlate}
+use Rattle.format.specs.PlateLength.{inside-length}
 use Rattle.clash.specs.declared.ClashKind.{ClashKind}
 use Rattle.clash.specs.declared.Clash.{Clash}
 use Rattle.clash.specs.declared.Clash.the-variants.{None, Between}
 use Rattle.clash.specs.FirstClash.{isClash, firstClash}
 use Rattle.clash.specs.ClashPixels.{FirstClashRight, first-clash-right}
 use Rattle.format.specs.InsideList.{choice-of-list, inside-ascending}
-use Rattle.format.specs.MakingQuestions.{makingNo, workspaceAfter, loadNo, none-making, none-load, zeroed-61, untouched}
-use Rattle.plate_maker.specs.Making.{makeOutcome, makeOutcomeOf, BestOutput, Making}
-use Rattle.plate_maker.specs.MakingLaws.{made-start}
+use Rattle.format.specs.MakingQuestions.{makingNo, workspaceAfter, outputAfter, loadNo, none-making, none-load, zeroed-61, untouched}
+use Rattle.plate_maker.specs.Making.{makeOutcome, Making}
+use Rattle.plate_maker.specs.MakingLaws.{made-making, made-preferred, made-start}
 use Rattle.plate_maker.specs.declared.MakeAnswer.{MakeAnswer}
 use Rattle.plate_maker.specs.declared.MakeAnswer.the-variants.{Made, Refused}
 use Rattle.desk.specs.Questions.{listCount, loadedListNo, markNo}
@@ -110,21 +110,21 @@ module _ (s : List ℕ) (a : Accepted s) (S : Choice) (v : Valid (pointsOf s) S)
 
 -- "A plate made from S": only the promise of make is used.
 plate-made-best : (s p : List ℕ) → Accepted s → PlateMade s p → BestList s (sectionRead p)
+unfolding bestPlate
 plate-made-best s p a m = by (m .answer) (m .made) (m .not-refused) (m .plate)
   where
     by : {o w o′ w′ : List ℕ} (answer : MakeAnswer) → Making s o w answer o′ w′ → makeOutcome answer .refused ≡ false
         → p ≡ take (makeOutcome answer .written) o′ → BestList s (sectionRead p)
     by (Refused k) m e q = absurd (true≢false e)
-    by {o} {w} {o′} (Made r) m e q =
-        let x : BestOutput s o o′ = m .output in
-        let S = x .choice in
-        rw (q, made-start m, section-read s S a) (choice-best s a S (x .valid) (x .best))
+    by (Made r) m e q =
+        let b = made-preferred m .best in
+        let S = bestChoiceOf s in
+        rw (q, made-start m, section-read s S a)
+        (choice-best s a S (b .valid) (best-counts (pointsOf s) S (a .proper .label-width .0) b))
 
--- from every accepted sheet that has a valid choice some plate is made: a best choice exists, and its plate with zeroed buffers meets the
--- promise
+-- from every accepted sheet that has a valid choice some plate is made: the best plate with zeroed buffers meets the promise
 feasible-plate : (s : List ℕ) → Accepted s → Feasible (pointsOf s) → (p : List ℕ) × PlateMade s p
 feasible-plate s a f =
-    let S = best-count-reached (pointsOf s) (a .proper .label-width .0) f in
     let o : List ℕ = replicate (12 + 8 * pointCount s) 0 in
     let w : List ℕ = replicate workspaceCells 0 in
     let room : 12 + 8 * pointCount s ≤ length o = rw (length-replicate {A = ℕ} (12 + 8 * pointCount s) 0) (omega arith) in
@@ -134,14 +134,10 @@ feasible-plate s a f =
       record {
         output = o;
         workspace = w;
-        answer = Made (bestLength s);
-        output-after = plateOf s (S .0) ++ drop (length (plateOf s (S .0))) o;
+        answer = Made (length (bestPlate s));
+        output-after = outputAfter 0 s o;
         workspace-after = workspaceAfter 0 w;
-        made = record {
-          outcome = ap (makeOutcomeOf s) (sym z);
-          workspace = refl;
-          output = record { choice = S .0; valid = S .1; best = S .2; plate = refl };
-        };
+        made = made-making s o w _ _ 0 _ (sym z) refl refl refl refl;
         not-refused = refl;
         plate = refl;
       },

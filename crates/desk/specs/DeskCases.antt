@@ -1,15 +1,14 @@
 -- A load with 61 keeps the sheet before it: P1, and then document 02 (c)'s sheet without a valid choice. Assumes nothing.
 use mathlib.Core.Path.{_≡_, ap, _∙_}
 use mathlib.Core.Bool.{true}
-use mathlib.Core.List.{List, [], _∷_}
+use mathlib.Core.List.{List}
 use mathlib.Core.Option.{some}
 use Prim.Native.Nat.{ℕ}
 use lib.ListN.{length, replicate}
 use native.Mathlib.Omega.{arith}
 use Rattle.format.specs.Sizes.{workspaceCells}
 use Rattle.format.specs.Accepted.{accepted}
-use Rattle.format.specs.MakingQuestions.{workspaceAfter, loadNo, none-load}
-use Rattle.format.specs.Plate.{choiceOf}
+use Rattle.format.specs.MakingQuestions.{workspaceAfter, loadNo, none-choice, none-load}
 use Rattle.plate_reader.specs.Cases.{sheet1, all-right}
 use Rattle.plate_reader.specs.Refusals.{crowded, crowded-61}
 use Rattle.desk.specs.Desk.{loadOf, loadOutcome}
@@ -17,11 +16,12 @@ use Rattle.desk.specs.Calls.{load, Calls, noCalls, _andThen_, deskAfter,
 use Rattle.desk.specs.DemandThree.{LoadRight}
 use Rattle.desk.specs.DemandThreeProof.{demand-three}
 
--- P1 is loaded: it is accepted, and its best choice is valid.
+-- P1 is loaded: it is accepted, and 61 is answered yes.
 first-loaded : loadNo sheet1 workspaceCells ≡ 0
 first-loaded =
     let c = all-right .0 in
-    none-load sheet1 workspaceCells .of ((accepted sheet1 (c .accepted), (omega arith, tt)), ((choiceOf (1 ∷ 2 ∷ []), c .expected .best .valid), tt))
+    let a = accepted sheet1 (c .accepted) in
+    none-load sheet1 workspaceCells .of ((a, (omega arith, tt)), none-choice sheet1 a .is (c .expected .0))
 
 -- With a workspace w that is just large enough.
 module _ (w : List ℕ) (cells : length w ≡ workspaceCells) where

@@ -14,12 +14,13 @@ pub mod Written
 pub mod Padded
 pub mod Stretches
 -- THEOREMS: what an accepted sheet has; 61, and sheets with distinct rows; the first bytes that decide; how long a plate is, and that it
--- is bytes; an ascending list is the list of one choice.
+-- is bytes; the best plate is that of the preferred choice; an ascending list is the list of one choice.
 pub mod Accepted
 pub mod SharedRows
 pub mod Start
 pub mod PlateLength
 pub mod PlateBytes
+pub mod BestPlate
 pub mod InsideList
 -- Bookkeeping for proofs: cascades of questions, and choices that agree.
 pub mod Asking

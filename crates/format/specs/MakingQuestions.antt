@@ -1,11 +1,11 @@
--- The questions of making and loading, and what a call leaves in the workspace (document 01, "Questions in their order", and document 02
--- (c)). Assumes nothing.
+-- The questions of making and loading, and what a call leaves in the workspace and in the output (document 01, "Questions in their order",
+-- and document 02 (c) and (d)). Assumes nothing.
 use mathlib.Core.Path.{_≡_}
 use mathlib.Core.Bool.{Bool, true, cond, _||_}
-use mathlib.Core.List.{List}
+use mathlib.Core.List.{List, _++_}
 use Prim.Native.Nat.{ℕ, _+_, _*_, _≤_}
 use lib.Dec.{leb, eqb}
-use lib.ListN.{length, replicate}
+use lib.ListN.{length, drop, replicate}
 use borrow.Author.Tests.{ne-eqb}
 use native.Mathlib.Omega.{arith}
 use Rattle.labeling.specs.Best.{Feasible, feasibleB}
@@ -13,6 +13,7 @@ use Rattle.labeling.specs.Greatest.{dec-feasible}
 use Rattle.labeling.specs.Decide.{dec-le, dec-true}
 use Rattle.format.specs.Sizes.{workspaceCells}
 use Rattle.format.specs.Sheet.{ask, thenNo, pointCount, pointsOf, sheetNo}
+use Rattle.format.specs.Plate.{bestPlate}
 use Rattle.format.specs.Accepted.{Accepted, NoneOf, none-ask, none-left, none-sheet}
 use Rattle.format.specs.Asking.{none-after, none-then}
 
@@ -48,6 +49,11 @@ loadNo s cells = thenNo (thenNo (sheetNo s) (workspaceNo cells)) (choiceNo s)
 -- workspace zero" (document 02 (c)). The workspace w after a call whose number is k.
 abbrev pub workspaceAfter : ℕ → List ℕ → List ℕ
 workspaceAfter k w = cond (eqb k 0 || eqb k 61) (replicate (length w) 0) w
+
+-- "When a plate is made, bytes past its end are untouched", and on a refusal all bytes are, 61 included. The output o after a making of s
+-- whose number is k.
+abbrev pub outputAfter : ℕ → List ℕ → List ℕ → List ℕ
+outputAfter k s o = cond (eqb k 0) (bestPlate s ++ drop (length (bestPlate s)) o) o
 
 -- WHERE NONE IS ANSWERED NO: the sheet is accepted, both buffers are large enough, and some choice is valid
 

@@ -1,9 +1,11 @@
--- The plate of a sheet and a choice, as bytes (document 01, "Sheet and plate as bytes"). Assumes nothing.
+-- The plate of a sheet and a choice, as bytes (document 01, "Sheet and plate as bytes"), and the best plate of a sheet (document 02 (d)).
+-- Assumes nothing.
 use mathlib.Core.Bool.{cond}
 use mathlib.Core.List.{List, [], _∷_, _++_}
 use Prim.Native.Nat.{ℕ, zero, suc}
 use lib.ListN.{length}
 use Rattle.labeling.specs.Points.{Choice, Placed, outside, placed, among}
+use Rattle.labeling.specs.Best.{oneEach, bestChoice}
 use Rattle.format.specs.Sheet.{pointCount, pointsOf}
 
 -- The choice with just the listed positions inside.
@@ -33,3 +35,12 @@ outsideSection s S = let l = outside (pointsOf s) S in length l ∷ pairs (place
 -- "Plate: the sheet's bytes; then" the two sections.
 unfoldable pub plateOf : List ℕ → Choice → List ℕ
 plateOf s S = s ++ insideSection s S ++ outsideSection s S
+
+-- The best choice of a sheet: of those with the best count the preferred one, "the one with it inside" "at the first point where two of them
+-- differ" (document 02 (d)).
+abbrev pub bestChoiceOf : List ℕ → Choice
+bestChoiceOf s = bestChoice (pointsOf s) oneEach
+
+-- "the returned plate is fixed for each sheet" (document 02 (d)): that of its best choice.
+unfoldable pub bestPlate : List ℕ → List ℕ
+bestPlate s = plateOf s (bestChoiceOf s)

@@ -9,7 +9,7 @@ use Rattle.labeling.specs.Agree.{outside-agree}
 use Rattle.format.specs.Sheet.{pointCount, pointsOf}
 use Rattle.format.specs.Plate.{insideBelow, insideSection, outsideSection, plateOf}
 
-inside-agree : (S R : Choice) (m : ℕ) → ((i : ℕ) → i < m → S i ≡ R i) → insideBelow S m ≡ insideBelow R m
+pub inside-agree : (S R : Choice) (m : ℕ) → ((i : ℕ) → i < m → S i ≡ R i) → insideBelow S m ≡ insideBelow R m
 unfolding insideBelow
 inside-agree S R zero a = refl
 inside-agree S R (suc m) a =

@@ -1,11 +1,11 @@
 -- "With i inside and o outside it has 12 + 6n + i + 2o bytes": the length of a plate. Assumes nothing.
 use mathlib.Core.Path.{_≡_, refl, ap, _∙_}
 use mathlib.Core.List.{List, [], _∷_}
-use Prim.Native.Nat.{ℕ, zero, suc, _+_, _-_, _*_}
+use Prim.Native.Nat.{ℕ, zero, suc, _+_, _*_}
 use lib.ListN.{length, length-append}
 use native.Mathlib.Omega.{arith}
 use Rattle.labeling.specs.Points.{Points, Choice, Placed, outside, placedFrom, placed, nextMargin}
-use Rattle.labeling.specs.Best.{weightBelow, weight, count, bestCount, oneEach}
+use Rattle.labeling.specs.Best.{weightBelow, weight, count, oneEach}
 use Rattle.labeling.specs.Decide.{decide}
 use Rattle.labeling.specs.Order.{outside-length}
 use Rattle.format.specs.Sheet.{pointCount, pointsOf}
@@ -62,17 +62,3 @@ unfolding plateOf
 plate-length s S a =
     let l : length s ≡ 10 + 6 * pointCount s = a .long in
     rw (length-append, length-append) (omega (arith, inside-section-length s S, outside-section-length s S))
-
--- "With i inside and o outside it has 12 + 6n + i + 2o bytes": the length of a best plate, i being the best count.
-unfoldable pub bestLength : List ℕ → ℕ
-bestLength s = let i = bestCount (pointsOf s) in 12 + 6 * pointCount s + i + 2 * (pointCount s - i)
-
--- the plate of a choice of the best count has the length of a best plate
-pub best-length : (s : List ℕ) (S : Choice) → Accepted s → count (pointsOf s) S ≡ bestCount (pointsOf s)
-    → length (plateOf s S) ≡ bestLength s
-unfolding bestLength
-best-length s S a e =
-    let o : length (outside (pointsOf s) S) + count (pointsOf s) S ≡ pointCount s = inside-outside s S in
-    let l : length (plateOf s S) ≡ 12 + 6 * pointCount s + count (pointsOf s) S + 2 * length (outside (pointsOf s) S) =
-    plate-length s S a in
-    omega arith

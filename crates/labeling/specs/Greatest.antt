@@ -32,7 +32,7 @@ up-to-put k R S b e f i l = same i k
     (λ q. rw (q, put-at S k b) e)
     (λ ne. f i (omega arith) ∙ sym (put-off S k i b ne))
 
-most-from : (P : Points) (v : ℕ → ℕ) (m k : ℕ) (S R : Choice) → 1 ≤ P .w → k + m ≡ P .n → Valid P R → UpTo k R S
+pub most-from : (P : Points) (v : ℕ → ℕ) (m k : ℕ) (S R : Choice) → 1 ≤ P .w → k + m ≡ P .n → Valid P R → UpTo k R S
     → weight P v R < bestFrom P v m k S
 unfolding bestFrom
 most-from P v zero k S R pos n ok f =

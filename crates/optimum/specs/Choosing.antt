@@ -1,29 +1,29 @@
 -- What best_choice answers and leaves. Assumes nothing.
-use mathlib.Core.Path.{_≡_}
-use mathlib.Core.Bool.{Bool}
+use mathlib.Core.Path.{_≡_, sym, ap, _∙_}
+use mathlib.Core.Bool.{Bool, cond}
 use mathlib.Core.List.{List}
 use Prim.Native.Nat.{ℕ}
+use lib.Dec.{eqb}
 use lib.ListN.{length, replicate}
+use borrow.Author.Tests.{eqb-true}
 use Rattle.labeling.specs.Points.{Choice, outside}
-use Rattle.labeling.specs.Marks.{Valid}
-use Rattle.labeling.specs.Best.{count, bestCount}
+use Rattle.labeling.specs.Decide.{decide}
 use Rattle.format.specs.Sheet.{pointCount, pointsOf}
-use Rattle.format.specs.Plate.{insideBelow}
+use Rattle.format.specs.Plate.{insideBelow, bestChoiceOf}
 use Rattle.format.specs.Padded.{padded}
-use Rattle.format.specs.MakingQuestions.{choiceNo, choosingNo, workspaceAfter}
+use Rattle.format.specs.MakingQuestions.{choosingNo, workspaceAfter}
 use Rattle.optimum.specs.declared.BestChoice.{BestChoice}
 
--- The two lists of a valid choice with the best count, each in 32 cells: "one byte for each inside position, ascending", and the outside
--- points "from the highest row down". WHICH BEST CHOICE IT IS STAYS OPEN, because document 01 leaves it open: "Which best choice is
--- returned is open where several exist."
-pub record BestSplit (s : List ℕ) (r : BestChoice) : Type 0 where
-  pub choice : Choice
-  pub valid : Valid (pointsOf s) choice
-  pub best : count (pointsOf s) choice ≡ bestCount (pointsOf s)
-  pub inside : r .inside ≡ padded 32 (insideBelow choice (pointCount s))
-  pub inside-count : r .«inside_count» ≡ length (insideBelow choice (pointCount s))
-  pub outside-points : r .outside ≡ padded 32 (outside (pointsOf s) choice)
-  pub outside-count : r .«outside_count» ≡ length (outside (pointsOf s) choice)
+-- The two lists of a choice, each in 32 cells: "one byte for each inside position, ascending", and the outside points "from the highest row
+-- down".
+abbrev pub splitOf : List ℕ → Choice → BestChoice
+splitOf s S = record {
+  no = 0;
+  inside = padded 32 (insideBelow S (pointCount s));
+  «inside_count» = length (insideBelow S (pointCount s));
+  outside = padded 32 (outside (pointsOf s) S);
+  «outside_count» = length (outside (pointsOf s) S);
+}
 
 -- Refused with the number k: no lists.
 abbrev pub nothingChosen : ℕ → BestChoice
@@ -35,16 +35,27 @@ nothingChosen k = record {
   «outside_count» = 0;
 }
 
--- What is chosen of an accepted sheet: the lists, or 61.
-pub record ChosenOf (s : List ℕ) (r : BestChoice) : Type 0 where
-  pub no : r .no ≡ choiceNo s
-  pub chosen : r .no ≡ 0 → BestSplit s r
-  pub refused : (r .no ≡ 0 → ⊥) → r ≡ nothingChosen (r .no)
+-- What is chosen of s where the number of the first no is k: the lists of its best choice, or none.
+abbrev pub chosenOf : List ℕ → ℕ → BestChoice
+chosenOf s k = cond (eqb k 0) (splitOf s (bestChoiceOf s)) (nothingChosen k)
 
--- THE PROMISE of best_choice, on any sheet s, any answer `fits` to 21 and any workspace w: the number of the first no; the workspace; and
--- the lists.
+-- THE PROMISE of best_choice, on any sheet s, any answer `fits` to 21 and any workspace w: what it answers, and the workspace afterwards.
 pub record Choosing (s : List ℕ) (fits : Bool) (w : List ℕ) (r : BestChoice) (w′ : List ℕ) : Type 0 where
-  pub no : r .no ≡ choosingNo s fits (length w)
-  pub workspace : w′ ≡ workspaceAfter (r .no) w
-  pub chosen : r .no ≡ 0 → BestSplit s r
-  pub refused : (r .no ≡ 0 → ⊥) → r ≡ nothingChosen (r .no)
+  pub answer : r ≡ chosenOf s (choosingNo s fits (length w))
+  pub workspace : w′ ≡ workspaceAfter (choosingNo s fits (length w)) w
+
+-- READING THE PROMISE: the number is that of the first no, the workspace is by the number, and where it is 0, the lists are those of the
+-- best choice
+
+number-of : (s : List ℕ) (k : ℕ) → chosenOf s k .no ≡ k
+number-of s k = decide (eqb k 0) (λ e. rw e (sym (eqb-true k 0 e))) (λ e. rw e)
+
+module _ {s : List ℕ} {fits : Bool} {w : List ℕ} {r : BestChoice} {w′ : List ℕ} (c : Choosing s fits w r w′) where
+  pub chosen-no : r .no ≡ choosingNo s fits (length w)
+  chosen-no = ap (λ x. x .no) (c .answer) ∙ number-of s _
+
+  pub chosen-workspace : w′ ≡ workspaceAfter (r .no) w
+  chosen-workspace = c .workspace ∙ ap (λ (k : ℕ). workspaceAfter k w) (sym chosen-no)
+
+  pub chosen-split : r .no ≡ 0 → r ≡ splitOf s (bestChoiceOf s)
+  chosen-split z = c .answer ∙ ap (chosenOf s) (sym chosen-no ∙ z)

@@ -1,4 +1,4 @@
--- WHAT IS PROMISED of best_choice: its number, the workspace, and the two lists of a best choice.
+-- WHAT IS PROMISED of best_choice: its number, the workspace, and the two lists of the best choice.
 pub mod Choosing
 -- WHAT THE TABLE SAYS: what is noted of a slab is right (Table `Memo`); a slab by the recurrence's functions.
 pub mod Table

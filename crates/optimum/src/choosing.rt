@@ -3,12 +3,13 @@ ghost use mathlib.Core.Path.{_≡_};
 ghost use Prim.Native.Nat.{_≤_};
 ghost use lib.ListN.{length, replicate};
 ghost use Rattle.format.specs.Sheet.{sheetNo};
+ghost use Rattle.format.specs.MakingQuestions.{choiceNo};
 ghost use Rattle.orders.specs.BothOrders.{BothOrders};
 ghost use Rattle.orders.specs.Arrays.{heightsOf};
 ghost use Rattle.optimum.specs.Packed.{Packed};
 ghost use Rattle.optimum.specs.Table.{Room, Blank, Solved};
 ghost use Rattle.optimum.specs.Split.{Numbered};
-ghost use Rattle.optimum.specs.Choosing.{nothingChosen, ChosenOf};
+ghost use Rattle.optimum.specs.Choosing.{nothingChosen, chosenOf};
 ghost use Rattle.optimum.specs.Chosen.{TwoLists};
 ghost use Rattle.orders.specs.Layout.{fieldCells};
 use crate::BestChoice;
@@ -75,7 +76,7 @@ fn two_lists(n: u8, heights: &PointArray, choice: &[u8; 32]) -> BestChoice
     }
 }
 
-// Sets the flags of the inside points of a best choice, and gives one more than its weight, or 0 where no choice is without conflicts. The
+// Sets the flags of the inside points of the best choice, and gives one more than its weight, or 0 where no choice is without conflicts. The
 // table is in the workspace.
 fn solve(heights: &PointArray, workspace: &mut [u16], flags: &mut Flags) -> u64
     requires { ⌜ Packed (now heights) × Room (now workspace) × Blank (now flags) ⌝ }
@@ -96,10 +97,10 @@ fn solve(heights: &PointArray, workspace: &mut [u16], flags: &mut Flags) -> u64
     best
 }
 
-// A best choice of an accepted sheet, whose points are in order, or 61 where no choice is valid. The workspace is left zero.
+// The best choice of an accepted sheet, whose points are in order, or 61 where no choice is valid. The workspace is left zero.
 pub(crate) fn chosen(sheet: &[u8], points: PointArray, workspace: &mut [u16]) -> BestChoice
     requires { ⌜ (sheetNo (now sheet) ≡ 0) × BothOrders (now sheet) points × Room (now workspace) ⌝ }
-    ensures { λ r. ⌜ ChosenOf (now (sheet .entry)) r
+    ensures { λ r. ⌜ (r ≡ chosenOf (now (sheet .entry)) (choiceNo (now (sheet .entry))))
         × (now (workspace .exit) ≡ replicate (length (now (workspace .entry))) 0) ⌝ }
 {
     let mut heights = points;

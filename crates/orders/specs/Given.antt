@@ -8,16 +8,17 @@ use native.Mathlib.Omega.{arith}
 use Rattle.labeling.specs.Marks.{labelOnMapB}
 use Rattle.labeling.specs.Tests.{dec-label-on-map}
 use Rattle.labeling.specs.Best.{oneEach}
+use Rattle.labeling.specs.TieBreak.{tieBroken, tie-most}
 use Rattle.labeling.specs.Positions.{Permits}
 use Rattle.format.specs.Sheet.{pointsOf}
 
--- The weight of position p of a sheet: each weighs 1.
+-- The weight of position p of a sheet: each weighs the same, but that ties are broken in sheet order.
 unfoldable pub weightOf : List ℕ → ℕ → ℕ
-weightOf sheet p = 1
+weightOf sheet p = tieBroken oneEach p
 
 -- No position weighs more than this.
 abbrev pub heaviest : ℕ
-heaviest = 1
+heaviest = 6442450944
 
 -- Position p of a sheet may be inside. Document 02 (a): "an inside label must lie wholly on the map".
 unfoldable pub permitted : List ℕ → ℕ → Bool
@@ -29,18 +30,18 @@ permission b = cond b 1 0
 
 -- LAWS, which are all that is used of the weights and the permissions
 
--- A best choice by these weights is one by count.
-pub weight-counts : (sheet : List ℕ) → weightOf sheet ≡ oneEach
+-- A best choice by these weights is the preferred one by count.
+pub weight-breaks : (sheet : List ℕ) → weightOf sheet ≡ tieBroken oneEach
 unfolding weightOf
-weight-counts sheet = refl
+weight-breaks sheet = refl
 
 pub weight-some : (sheet : List ℕ) (p : ℕ) → 1 ≤ weightOf sheet p
-unfolding weightOf
+unfolding weightOf tieBroken
 weight-some sheet p = omega arith
 
 pub weight-most : (sheet : List ℕ) (p : ℕ) → weightOf sheet p ≤ heaviest
-unfolding weightOf
-weight-most sheet p = omega arith
+unfolding weightOf tieBroken
+weight-most sheet p = omega (arith, tie-most p)
 
 -- The permissions keep no valid choice out, and let no label leave the map.
 pub permits : (sheet : List ℕ) → Permits (pointsOf sheet) (permitted sheet)

@@ -2,6 +2,7 @@
 ghost use mathlib.Core.Path.{_≡_};
 ghost use Prim.Native.Nat.{ℕ, _+_, _<_, _≤_};
 ghost use lib.ListN.{length, getD};
+ghost use Rattle.labeling.specs.TieBreak.{tieBreak};
 ghost use Rattle.orders.specs.Words.{withValue};
 ghost use Rattle.orders.specs.Given.{weightOf, permitted, permission};
 ghost use Rattle.orders.specs.GivenCells.{GivenCells};
@@ -12,11 +13,20 @@ use crate::layout::FIRST_ALLOWED;
 use crate::layout::FIRST_WEIGHT;
 use format::label_on_map;
 
-// The weight of a position: each weighs 1.
+// What a position adds so that ties are broken in sheet order: the first of 32 the most, and each next one half of that.
+fn tie_break(position: u8) -> u64
+    requires { ⌜ position < 32 ⌝ }
+    ensures { λ r. ⌜ (r ≡ tieBreak position) × (r ≤ 2147483648) ⌝ }
+{
+    2147483648 >> position
+}
+
+// The weight of a position.
 fn weight_of(sheet: &[u8], position: u8) -> u64
+    requires { ⌜ position < 32 ⌝ }
     ensures { λ r. ⌜ r ≡ weightOf (now (sheet .entry)) position ⌝ }
 {
-    1
+    4294967296 + tie_break(position)
 }
 
 // The permission of a position to be inside, 1 or 0: its label is on the map.

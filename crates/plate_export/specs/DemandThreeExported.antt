@@ -5,7 +5,7 @@ use mathlib.Core.Bool.{false}
 use mathlib.Core.List.{List}
 use Prim.Native.Nat.{ℕ}
 use lib.ListN.{length, take}
-use Rattle.format.specs.MakingQuestions.{makingNo, workspaceAfter}
+use Rattle.format.specs.MakingQuestions.{makingNo}
 use Rattle.plate_maker.specs.Making.{makeOutcomeOf}
 use Rattle.plate_maker.specs.declared.MakeAnswer.the-variants.{Made}
 use Rattle.desk.specs.Desk.{fresh, loadOf, markOf}
@@ -60,8 +60,8 @@ exported-plate-made {s} {o} {w} {o′} {w′} r m z =
       workspace-after = w′;
       made = record {
         outcome = rw (← y) (ap (λ n. record { refused = false; no = 0; written = n }) (m .length ∙ ap (λ k. makeOutcomeOf s k .written) z));
-        workspace = m .workspace ∙ ap (λ k. workspaceAfter k w) z;
-        output = rw z at (m .output);
+        workspace = rw (← m .first-no) (m .workspace);
+        output = rw (← m .first-no) (m .output);
       };
       not-refused = refl;
       plate = refl;

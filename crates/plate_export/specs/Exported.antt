@@ -1,6 +1,6 @@
 -- What the exported calls answer, in the definitions of the calls inside. Assumes nothing.
 use mathlib.Core.Path.{_≡_, refl, sym, ap, _∙_}
-use mathlib.Core.Bool.{true, false, cond, not}
+use mathlib.Core.Bool.{false}
 use mathlib.Core.List.{List}
 use Prim.Native.Nat.{ℕ}
 use lib.Dec.{eqb}
@@ -10,21 +10,21 @@ use Rattle.plate_reader.specs.PlateQuestions.{insideStart, plateNo, handedBackA
 use Rattle.plate_reader.specs.PlateAnswers.{plateOutcome, plateOutcomeOf}
 use Rattle.plate_reader.specs.declared.PlateAnswer.{PlateAnswer}
 use Rattle.plate_reader.specs.declared.PlateAnswer.the-variants.{Accepted as AcceptedPlate, Refused as RefusedPlate}
-use Rattle.format.specs.MakingQuestions.{makingNo, workspaceAfter}
-use Rattle.plate_maker.specs.Making.{makeOutcomeOf, BestOutput, Making}
+use Rattle.format.specs.MakingQuestions.{makingNo, workspaceAfter, outputAfter}
+use Rattle.plate_maker.specs.Making.{makeOutcomeOf, Making}
+use Rattle.plate_maker.specs.MakingLaws.{making-workspace, made-output}
 use Rattle.plate_maker.specs.declared.MakeAnswer.{MakeAnswer}
 use Rattle.plate_maker.specs.declared.MakeAnswer.the-variants.{Made, Refused}
 use Rattle.plate_export.specs.declared.MakeResult.{MakeResult}
 use Rattle.plate_export.specs.declared.ReadResult.{ReadResult}
 
--- plate_make: make's promise, with the answer as the numbers of its outcome. Where the number is 0 the output holds a best plate (which
--- best choice stays open, as in make), otherwise it is untouched.
+-- plate_make: make's promise, with the answer as the numbers of its outcome.
 pub record MakingExported (s o w : List ℕ) (r : MakeResult) (o′ w′ : List ℕ) : Type 0 where
   pub first-no : r .number ≡ makingNo s (length o) (length w)
   pub spare : r .spare ≡ 0
   pub length : r .written ≡ makeOutcomeOf s (r .number) .written
   pub workspace : w′ ≡ workspaceAfter (r .number) w
-  pub output : cond (eqb (r .number) 0) (BestOutput s o o′) (o′ ≡ o)
+  pub output : o′ ≡ outputAfter (r .number) s o
 
 -- plate_read: the first no, and the stretch that the reader hands back.
 pub record ReadingExported (p : List ℕ) (r : ReadResult) : Type 0 where
@@ -62,8 +62,8 @@ exported-made {s} {o} {w} {o′} {w′} {k} a m e =
       first-no = z;
       spare = refl;
       length = (λ i. m′ .outcome i .written) ∙ ap (λ (n : ℕ). makeOutcomeOf s n .written) (sym z);
-      workspace = m′ .workspace;
-      output = m′ .output;
+      workspace = making-workspace m′;
+      output = made-output m′;
     }
 
 pub exported-refused : {s o w o′ w′ : List ℕ} {k : ℕ} (a : MakeAnswer) → Making s o w a o′ w′ → a ≡ Refused k
@@ -71,12 +71,10 @@ pub exported-refused : {s o w o′ w′ : List ℕ} {k : ℕ} (a : MakeAnswer) �
 exported-refused {s} {o} {w} {o′} {w′} {k} a m e =
     let m′ : Making s o w (Refused k) o′ w′ = rw e at m in
     let z : k ≡ makingNo s (length o) (length w) = λ i. m′ .outcome i .no in
-    let f : true ≡ not (eqb (makingNo s (length o) (length w)) 0) = λ i. m′ .outcome i .refused in
-    let g : eqb k 0 ≡ false = ap (λ (n : ℕ). eqb n 0) z ∙ not-true _ (sym f) in
     record {
       first-no = z;
       spare = refl;
       length = (λ i. m′ .outcome i .written) ∙ ap (λ (n : ℕ). makeOutcomeOf s n .written) (sym z);
-      workspace = m′ .workspace;
-      output = rw g (m′ .output);
+      workspace = making-workspace m′;
+      output = rw z (m′ .output);
     }

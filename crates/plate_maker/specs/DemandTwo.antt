@@ -9,12 +9,12 @@ use lib.ListN.{take}
 use Rattle.labeling.specs.Points.{Choice}
 use Rattle.labeling.specs.Marks.{Valid}
 use Rattle.format.specs.Sheet.{pointCount, pointsOf}
-use Rattle.format.specs.Plate.{insideBelow, plateOf}
+use Rattle.format.specs.Plate.{insideBelow, plateOf, bestChoiceOf, bestPlate}
 use Rattle.format.specs.Accepted.{none-sheet}
 use Rattle.plate_reader.specs.PlateQuestions.{plateNo, handedBack}
 use Rattle.plate_reader.specs.DemandTwoReader.{PlateOfChoice, ReadRight, demand-two-reader}
-use Rattle.plate_maker.specs.Making.{BestOutput, Making}
-use Rattle.plate_maker.specs.MakingLaws.{made-accepted, made-start}
+use Rattle.plate_maker.specs.Making.{Making}
+use Rattle.plate_maker.specs.MakingLaws.{made-accepted, made-preferred, made-start}
 use Rattle.plate_maker.specs.declared.MakeAnswer.the-variants.{Made}
 
 -- A plate p made from the sheet s: it is the plate of s and a valid choice, it is accepted, and the inside list that the reader hands
@@ -33,17 +33,18 @@ pub record DemandTwo : Type 0 where
   pub made : (s o w o′ w′ : List ℕ) (k : ℕ) → Making s o w (Made k) o′ w′ → MadeRight s (take k o′)
 
 made-right : (s o w o′ w′ : List ℕ) (k : ℕ) → Making s o w (Made k) o′ w′ → MadeRight s (take k o′)
+unfolding bestPlate
 made-right s o w o′ w′ k m =
-    let b : BestOutput s o o′ = m .output in
+    let v : Valid (pointsOf s) (bestChoiceOf s) = made-preferred m .best .valid in
     let x : PlateOfChoice (take k o′) = record {
       sheet = s;
-      choice = b .choice;
+      choice = bestChoiceOf s;
       accepted = none-sheet s .of (made-accepted m);
-      valid = b .valid;
+      valid = v;
       plate = made-start m;
     } in
     let r : ReadRight (take k o′) = demand-two-reader (take k o′) in
-    record { choice = b .choice; valid = b .valid; plate = made-start m; accepted = r .accepts .1 x; inside = r .inside x }
+    record { choice = bestChoiceOf s; valid = v; plate = made-start m; accepted = r .accepts .1 x; inside = r .inside x }
 
 pub demand-two : DemandTwo
 demand-two = record { reads = demand-two-reader; made = made-right }

@@ -6,4 +6,4 @@ pub mod MakingLaws
 -- BOOKKEEPING: a plate written from two lists, and that it is the plate of the choice.
 pub mod Writing
 pub mod Pairs
-pub mod BestPlate
+pub mod PlateOfLists

@@ -1,4 +1,4 @@
-// The plate maker: a best plate of a sheet.
+// The plate maker: the best plate of a sheet.
 ghost use mathlib.Core.Path.{_≡_};
 ghost use Rattle.format.specs.MakingQuestions.{outputFits};
 ghost use Rattle.plate_maker.specs.Making.{Making};
@@ -21,7 +21,7 @@ fn output_fits(sheet: &[u8], room: usize) -> bool
     needed <= room
 }
 
-// Makes a best plate of the sheet at the start of the output.
+// Makes the best plate of the sheet at the start of the output.
 pub fn make(sheet: &[u8], output: &mut [u8], workspace: &mut [u16]) -> MakeAnswer
     ensures { λ r. ⌜ Making (now (sheet .entry)) (now (output .entry)) (now (workspace .entry))
         r (now (output .exit)) (now (workspace .exit)) ⌝ }

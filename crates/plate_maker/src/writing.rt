@@ -5,11 +5,9 @@ ghost use mathlib.Core.List.{_∷_, _++_};
 ghost use lib.ListN.{length, drop};
 ghost use Rattle.labeling.specs.Points.{placed};
 ghost use Rattle.format.specs.Sheet.{sheetNo, pointCount, pointsOf};
-ghost use Rattle.format.specs.Plate.{pairs};
-ghost use Rattle.optimum.specs.Choosing.{BestSplit};
+ghost use Rattle.format.specs.Plate.{pairs, bestChoiceOf, bestPlate};
+ghost use Rattle.optimum.specs.Choosing.{splitOf};
 ghost use Rattle.format.specs.Written.{written};
-ghost use Rattle.format.specs.PlateLength.{bestLength};
-ghost use Rattle.plate_maker.specs.Making.{BestOutput};
 ghost use Rattle.plate_maker.specs.Writing.{sectionOf, marginAfter, plateOfLists};
 use format::copy_to;
 use optimum::BestChoice;
@@ -83,10 +81,13 @@ fn write_plate(sheet: &[u8], inside: &[u8], outside: &[u8], output: &mut [u8]) -
     write_outside(sheet, outside, output, at)
 }
 
-// Writes the plate of an accepted sheet and a best choice at the start of the output, and gives its length.
+// Writes the plate of an accepted sheet and its best choice at the start of the output, and gives its length.
 pub(crate) fn write_best(sheet: &[u8], choice: BestChoice, output: &mut [u8]) -> usize
-    requires { ⌜ (sheetNo (now sheet) ≡ 0) × BestSplit (now sheet) choice × (12 + 8 * pointCount (now sheet) ≤ length (now output)) ⌝ }
-    ensures { λ r. ⌜ (r ≡ bestLength (now (sheet .entry))) × BestOutput (now (sheet .entry)) (now (output .entry)) (now (output .exit)) ⌝ }
+    requires { ⌜ (sheetNo (now sheet) ≡ 0) × (choice ≡ splitOf (now sheet) (bestChoiceOf (now sheet)))
+        × (12 + 8 * pointCount (now sheet) ≤ length (now output)) ⌝ }
+    ensures { λ r. ⌜ (r ≡ length (bestPlate (now (sheet .entry))))
+        × (now (output .exit)
+        ≡ bestPlate (now (sheet .entry)) ++ drop (length (bestPlate (now (sheet .entry)))) (now (output .entry))) ⌝ }
 {
     let inside = choice.inside;
     let inside_count = choice.inside_count as usize;

@@ -1,22 +1,22 @@
--- Document 01's cases P1 to P10, labels at the map's edges (document 02 (a)), stacked outer labels (document 02 (b)) and shared rows
--- (document 02 (c)), from the sheet's bytes: one table, one theorem. What the theorem says is in the words of labeling (valid and best over
--- pixels) and of format's Plate.antt; the tests only compute it. Assumes nothing.
+-- Document 01's cases P1 to P10, labels at the map's edges (document 02 (a)), stacked outer labels (document 02 (b)), shared rows (document
+-- 02 (c)) and ties (document 02 (d)), from the sheet's bytes: one table, one theorem. What the theorem says is in the words of labeling
+-- (valid over pixels) and of format's Plate.antt (the plate of a choice, the best plate); the tests only compute it. Assumes nothing.
 use mathlib.Core.Path.{_≡_, refl, sym, ap, _∙_}
 use mathlib.Core.Bool.{Bool, true, false, cond, _&&_}
 use mathlib.Core.List.{List, [], _∷_, _++_}
 use Prim.Native.Nat.{ℕ}
 use lib.Dec.{T, eqb}
 use borrow.Author.Tests.{eqb-true}
-use Rattle.labeling.specs.Points.{Points, Choice, before, insert, outsideBelow, outside, nextMargin, placedFrom, placed, among}
+use Rattle.labeling.specs.Points.{before, insert, outsideBelow, outside, nextMargin, placedFrom, placed, among}
 use Rattle.labeling.specs.Marks.{Valid}
 use Rattle.labeling.specs.Conflicts.{conflictB, apartB, withinB, validB, every}
 use Rattle.labeling.specs.Decide.{not-both, and-left, and-right}
 use Rattle.labeling.specs.Pixels.{dec-valid}
-use Rattle.labeling.specs.Best.{weightBelow, weight, oneEach, OnlyBest, put}
-use Rattle.labeling.specs.Only.{everyChoice, agreeB, behindB, onlyBestB, onlyBestB-is}
+use Rattle.labeling.specs.Best.{weightBelow, weight, put, bestFrom, best, bestChoiceFrom, bestChoice}
 use Rattle.format.specs.Sheet.{twoBytes, pointsOf, unlikeEarlier, pointNo, pointsNo, questionsNo, sheetNo, plateSheetNo}
 use Rattle.format.specs.Accepted.{Accepted, accepted}
-use Rattle.format.specs.Plate.{choiceOf, insideBelow, insideSection, pairs, outsideSection, plateOf}
+use Rattle.format.specs.Plate.{choiceOf, insideBelow, insideSection, pairs, outsideSection, plateOf, bestPlate}
+use Rattle.format.specs.MakingQuestions.{choiceNo}
 use Rattle.format.specs.Bytes.{sameBytes, dec-bytes}
 use Rattle.format.specs.Ascending.{ascending}
 use Rattle.clash.specs.declared.ClashKind.{ClashKind}
@@ -27,9 +27,10 @@ use Rattle.clash.specs.FirstClash.{pairClash, ownClash, firstOf, laterClash, cl
 use Rattle.clash.specs.ClashPixels.{Named, first-clash-right}
 use Rattle.plate_reader.specs.PlateQuestions.{sheetOf, insideList, outsidePairs, sectionsFit, pairsRight, sectionsNo, plateNo}
 
--- What a case says of its choice; of a clash, the two positions and its kind.
+-- What a case says of its choice: that its plate is the one that is made; that it is valid; or its first clash, the two positions and the
+-- kind.
 pub data Expected : Type 0 where
-  onlyBest : Expected
+  made : Expected
   valid : Expected
   clashes : (first second : ℕ) → ClashKind → Expected
 
@@ -83,24 +84,24 @@ ridge c d = sheet 4 2 2 (at 1 c 3 (at 2 d 3 []))
 abbrev pub cases : List Case
 cases =
     -- P1: "The plate adds 02 01 02 01 00 00."
-    record { sheet = sheet1; inside = 1 ∷ 2 ∷ []; expected = onlyBest; added = 2 ∷ 1 ∷ 2 ∷ 1 ∷ 0 ∷ 0 ∷ [] } ∷
-    -- one best choice, whose outside points take columns 0, 1, 0 from the top down: the greatest column is neither the last pair's nor the
+    record { sheet = sheet1; inside = 1 ∷ 2 ∷ []; expected = made; added = 2 ∷ 1 ∷ 2 ∷ 1 ∷ 0 ∷ 0 ∷ [] } ∷
+    -- the outside points take columns 0, 1, 0 from the top down: the greatest column is neither the last pair's nor the
     -- outside count
-    record { sheet = sheetOfFive; inside = 0 ∷ 1 ∷ []; expected = onlyBest; added = 2 ∷ 0 ∷ 1 ∷ 3 ∷ 2 ∷ 0 ∷ 3 ∷ 1 ∷ 4 ∷ 0 ∷ [] } ∷
+    record { sheet = sheetOfFive; inside = 0 ∷ 1 ∷ []; expected = made; added = 2 ∷ 0 ∷ 1 ∷ 3 ∷ 2 ∷ 0 ∷ 3 ∷ 1 ∷ 4 ∷ 0 ∷ [] } ∷
     -- document 02 (b): "P9 becomes 0, 1, 2"
-    record { sheet = stacked 6; inside = []; expected = onlyBest; added = 0 ∷ 3 ∷ 0 ∷ 0 ∷ 1 ∷ 1 ∷ 2 ∷ 2 ∷ [] } ∷
+    record { sheet = stacked 6; inside = []; expected = made; added = 0 ∷ 3 ∷ 0 ∷ 0 ∷ 1 ∷ 1 ∷ 2 ∷ 2 ∷ [] } ∷
     -- document 02 (b): "outside rows 10, 9, 5 with h = 3 give 0, 1, 0"
-    record { sheet = stacked 5; inside = []; expected = onlyBest; added = 0 ∷ 3 ∷ 0 ∷ 0 ∷ 1 ∷ 1 ∷ 2 ∷ 0 ∷ [] } ∷
+    record { sheet = stacked 5; inside = []; expected = made; added = 0 ∷ 3 ∷ 0 ∷ 0 ∷ 1 ∷ 1 ∷ 2 ∷ 0 ∷ [] } ∷
     -- two outside points 3 rows apart with h = 3: side by side
-    record { sheet = touching; inside = []; expected = onlyBest; added = 0 ∷ 2 ∷ 0 ∷ 0 ∷ 1 ∷ 1 ∷ [] } ∷
+    record { sheet = touching; inside = []; expected = made; added = 0 ∷ 2 ∷ 0 ∷ 0 ∷ 1 ∷ 1 ∷ [] } ∷
     -- "On P1, a fresh desk gives list ... 01 00 number 2, clash of 0 and 1"
     record { sheet = sheet1; inside = 0 ∷ []; expected = clashes 0 1 LabelAndLeader; added = 1 ∷ 0 ∷ 2 ∷ 2 ∷ 0 ∷ 1 ∷ 0 ∷ [] } ∷
     -- P2: "only the third inside; margin columns 1 for the first, 0 for the second"
-    record { sheet = sheet2; inside = 2 ∷ []; expected = onlyBest; added = 1 ∷ 2 ∷ 2 ∷ 1 ∷ 0 ∷ 0 ∷ 1 ∷ [] } ∷
+    record { sheet = sheet2; inside = 2 ∷ []; expected = made; added = 1 ∷ 2 ∷ 2 ∷ 1 ∷ 0 ∷ 0 ∷ 1 ∷ [] } ∷
     -- P3: "label 4 by 2, (2,3) and (6,4): both inside"
-    record { sheet = sheet 4 2 2 (at 1 2 3 (at 2 6 4 [])); inside = 0 ∷ 1 ∷ []; expected = onlyBest; added = 2 ∷ 0 ∷ 1 ∷ 0 ∷ [] } ∷
+    record { sheet = sheet 4 2 2 (at 1 2 3 (at 2 6 4 [])); inside = 0 ∷ 1 ∷ []; expected = made; added = 2 ∷ 0 ∷ 1 ∷ 0 ∷ [] } ∷
     -- P4: "(2,3) and (5,4): the second alone"
-    record { sheet = sheet 4 2 2 (at 1 2 3 (at 2 5 4 [])); inside = 1 ∷ []; expected = onlyBest; added = 1 ∷ 1 ∷ 1 ∷ 0 ∷ 0 ∷ [] } ∷
+    record { sheet = sheet 4 2 2 (at 1 2 3 (at 2 5 4 [])); inside = 1 ∷ []; expected = made; added = 1 ∷ 1 ∷ 1 ∷ 0 ∷ 0 ∷ [] } ∷
     -- P4's two points both inside
     record {
       sheet = sheet 4 2 2 (at 1 2 3 (at 2 5 4 []));
@@ -108,8 +109,29 @@ cases =
       expected = clashes 0 1 Labels;
       added = 2 ∷ 0 ∷ 1 ∷ 0 ∷ [];
     } ∷
-    -- P5: "(4,3) inside and (3,4) outside: valid"
-    record { sheet = sheet 4 2 2 (at 1 4 3 (at 2 3 4 [])); inside = 0 ∷ []; expected = valid; added = 1 ∷ 0 ∷ 1 ∷ 1 ∷ 0 ∷ [] } ∷
+    -- P5: "(4,3) inside and (3,4) outside: valid", and so is (3,4) alone inside; "The two-point tie of document 01 puts the first point
+    -- inside" (document 02 (d))
+    record { sheet = sheet 4 2 2 (at 1 4 3 (at 2 3 4 [])); inside = 0 ∷ []; expected = made; added = 1 ∷ 0 ∷ 1 ∷ 1 ∷ 0 ∷ [] } ∷
+    -- the two exchanged in the sheet: the first is (3,4) then
+    record { sheet = sheet 4 2 2 (at 1 3 4 (at 2 4 3 [])); inside = 0 ∷ []; expected = made; added = 1 ∷ 0 ∷ 1 ∷ 1 ∷ 0 ∷ [] } ∷
+    -- the other best choice of P5
+    record { sheet = sheet 4 2 2 (at 1 4 3 (at 2 3 4 [])); inside = 1 ∷ []; expected = valid; added = 1 ∷ 1 ∷ 1 ∷ 0 ∷ 0 ∷ [] } ∷
+    -- P5 twice: of (12,8) and (11,9) one is inside, and of (4,3) and (3,4), so there are four best choices. The first two of the sheet are
+    -- preferred; by height, from below or from above, or by column it would be another pair
+    record {
+      sheet = sheet 4 2 4 (at 1 11 9 (at 2 4 3 (at 3 12 8 (at 4 3 4 []))));
+      inside = 0 ∷ 1 ∷ [];
+      expected = made;
+      added = 2 ∷ 0 ∷ 1 ∷ 2 ∷ 2 ∷ 0 ∷ 3 ∷ 0 ∷ [];
+    } ∷
+    -- stairs, (9,1), (8,2), (7,3), (6,4), of which no two neighbours can be inside: (9,1) with (7,3), (9,1) with (6,4) and (8,2) with (6,4)
+    -- are best. In this sheet the last two differ first at (8,2), which is preferred, and last at (9,1)
+    record {
+      sheet = sheet 4 2 4 (at 1 8 2 (at 2 9 1 (at 3 7 3 (at 4 6 4 []))));
+      inside = 0 ∷ 3 ∷ [];
+      expected = made;
+      added = 2 ∷ 0 ∷ 3 ∷ 2 ∷ 2 ∷ 0 ∷ 1 ∷ 1 ∷ [];
+    } ∷
     -- P6: "the second at (4,4): a clash"
     record {
       sheet = sheet 4 2 2 (at 1 4 3 (at 2 4 4 []));
@@ -118,21 +140,21 @@ cases =
       added = 1 ∷ 0 ∷ 1 ∷ 1 ∷ 0 ∷ [];
     } ∷
     -- P7: "(2,3) and (2,5), label 4 by 2: both inside"
-    record { sheet = sheet 4 2 2 (at 1 2 3 (at 2 2 5 [])); inside = 0 ∷ 1 ∷ []; expected = onlyBest; added = 2 ∷ 0 ∷ 1 ∷ 0 ∷ [] } ∷
+    record { sheet = sheet 4 2 2 (at 1 2 3 (at 2 2 5 [])); inside = 0 ∷ 1 ∷ []; expected = made; added = 2 ∷ 0 ∷ 1 ∷ 0 ∷ [] } ∷
     -- P8: "h = 3, outside rows 10, 9, 7: columns 0, 1, 2"
     record { sheet = sheet8; inside = []; expected = valid; added = 0 ∷ 3 ∷ 0 ∷ 0 ∷ 1 ∷ 1 ∷ 2 ∷ 2 ∷ [] } ∷
     -- P10: "n = 0: the plate adds 00 00"
-    record { sheet = sheet 4 2 0 []; inside = []; expected = onlyBest; added = 0 ∷ 0 ∷ [] } ∷
+    record { sheet = sheet 4 2 0 []; inside = []; expected = made; added = 0 ∷ 0 ∷ [] } ∷
     -- document 02 (a): "With P1's map and label a point at (18,2) can then only be outside."
-    record { sheet = framed 1 (at 1 18 2 []); inside = []; expected = onlyBest; added = 0 ∷ 1 ∷ 0 ∷ 0 ∷ [] } ∷
+    record { sheet = framed 1 (at 1 18 2 []); inside = []; expected = made; added = 0 ∷ 1 ∷ 0 ∷ 0 ∷ [] } ∷
     -- the same point inside: "a clash of a position with itself"
     record { sheet = framed 1 (at 1 18 2 []); inside = 0 ∷ []; expected = clashes 0 0 Overhang; added = 1 ∷ 0 ∷ 0 ∷ [] } ∷
     -- (16,3) just touches the right edge, (5,8) the top edge: both inside
-    record { sheet = framed 2 (at 1 16 3 (at 2 5 8 [])); inside = 0 ∷ 1 ∷ []; expected = onlyBest; added = 2 ∷ 0 ∷ 1 ∷ 0 ∷ [] } ∷
+    record { sheet = framed 2 (at 1 16 3 (at 2 5 8 [])); inside = 0 ∷ 1 ∷ []; expected = made; added = 2 ∷ 0 ∷ 1 ∷ 0 ∷ [] } ∷
     -- (16,8) touches both
-    record { sheet = framed 1 (at 1 16 8 []); inside = 0 ∷ []; expected = onlyBest; added = 1 ∷ 0 ∷ 0 ∷ [] } ∷
+    record { sheet = framed 1 (at 1 16 8 []); inside = 0 ∷ []; expected = made; added = 1 ∷ 0 ∷ 0 ∷ [] } ∷
     -- (17,3) and (5,9), one pixel further: both outside
-    record { sheet = framed 2 (at 1 17 3 (at 2 5 9 [])); inside = []; expected = onlyBest; added = 0 ∷ 2 ∷ 1 ∷ 0 ∷ 0 ∷ 0 ∷ [] } ∷
+    record { sheet = framed 2 (at 1 17 3 (at 2 5 9 [])); inside = []; expected = made; added = 0 ∷ 2 ∷ 1 ∷ 0 ∷ 0 ∷ 0 ∷ [] } ∷
     -- (17,4) overhangs and its label meets that of (15,3): the overhang comes first
     record {
       sheet = framed 2 (at 1 17 4 (at 2 15 3 []));
@@ -178,7 +200,7 @@ cases =
       added = 3 ∷ 0 ∷ 1 ∷ 2 ∷ 0 ∷ [];
     } ∷
     -- document 02 (c), (2,3) and (8,3): both inside
-    record { sheet = ridge 2 8; inside = 0 ∷ 1 ∷ []; expected = onlyBest; added = 2 ∷ 0 ∷ 1 ∷ 0 ∷ [] } ∷
+    record { sheet = ridge 2 8; inside = 0 ∷ 1 ∷ []; expected = made; added = 2 ∷ 0 ∷ 1 ∷ 0 ∷ [] } ∷
     -- the left one inside, the right one outside: its leader runs through the label
     record { sheet = ridge 2 8; inside = 0 ∷ []; expected = clashes 0 1 LabelAndLeader; added = 1 ∷ 0 ∷ 1 ∷ 1 ∷ 0 ∷ [] } ∷
     -- the left one outside, the right one inside
@@ -188,12 +210,12 @@ cases =
     -- the smaller column is the second position's
     record { sheet = ridge 8 2; inside = []; expected = clashes 0 1 TwoLeaders; added = 0 ∷ 2 ∷ 1 ∷ 0 ∷ 0 ∷ 1 ∷ [] } ∷
     -- the labels of (2,3) and (5,3) would meet: the left one is outside
-    record { sheet = ridge 2 5; inside = 1 ∷ []; expected = onlyBest; added = 1 ∷ 1 ∷ 1 ∷ 0 ∷ 0 ∷ [] } ∷
+    record { sheet = ridge 2 5; inside = 1 ∷ []; expected = made; added = 1 ∷ 1 ∷ 1 ∷ 0 ∷ 0 ∷ [] } ∷
     -- one outside in each of two shared rows
     record {
       sheet = sheet 4 2 4 (at 1 2 3 (at 2 5 3 (at 3 10 8 (at 4 12 8 []))));
       inside = 1 ∷ 3 ∷ [];
-      expected = onlyBest;
+      expected = made;
       added = 2 ∷ 1 ∷ 3 ∷ 2 ∷ 2 ∷ 0 ∷ 0 ∷ 0 ∷ [];
     } ∷
     -- (2,3) and (8,3) are two leaders; the label of (3,3), the third, is on the second's leader: the two leaders come first
@@ -227,20 +249,21 @@ cases =
 
 -- WHAT A CASE SAYS
 
-abbrev pub Says : Expected → Points → Choice → Type 0
-Says onlyBest P S = OnlyBest P oneEach S
-Says valid P S = Valid P S
-Says (clashes i j k) P S = Named P S i j k
+-- Of a case that is made: 61 is answered yes, and the best plate of its sheet has these bytes.
+abbrev pub Says : Expected → Case → Type 0
+Says made c = (choiceNo (c .sheet) ≡ 0) × (bestPlate (c .sheet) ≡ c .sheet ++ c .added)
+Says valid c = Valid (pointsOf (c .sheet)) (choiceOf (c .inside))
+Says (clashes i j k) c = Named (pointsOf (c .sheet)) (choiceOf (c .inside)) i j k
 
 -- What the plate's questions answer: 0, or "Is the choice valid? 44".
 abbrev pub readNo : Expected → ℕ
-readNo onlyBest = 0
+readNo made = 0
 readNo valid = 0
 readNo (clashes i j k) = 44
 
 pub record Right (c : Case) : Type 0 where
   pub accepted : sheetNo (c .sheet) ≡ 0
-  pub expected : Says (c .expected) (pointsOf (c .sheet)) (choiceOf (c .inside))
+  pub expected : Says (c .expected) c
   pub plate : plateOf (c .sheet) (choiceOf (c .inside)) ≡ c .sheet ++ c .added
   pub read : plateNo (c .sheet ++ c .added) ≡ readNo (c .expected)
 
@@ -264,17 +287,17 @@ abbrev sameClash : Clash → ℕ → ℕ → ClashKind → Bool
 sameClash None i j k = false
 sameClash (Between a b m) i j k = eqb a i && (eqb b j && eqb (kindPlace m) (kindPlace k))
 
-abbrev saysB : Expected → Points → Choice → Bool
-saysB onlyBest P S = onlyBestB P oneEach S
-saysB valid P S = validB P S
-saysB (clashes i j k) P S = sameClash (firstClash P S) i j k
+abbrev saysB : Expected → Case → Bool
+saysB made c = eqb (choiceNo (c .sheet)) 0 && sameBytes (bestPlate (c .sheet)) (c .sheet ++ c .added)
+saysB valid c = validB (pointsOf (c .sheet)) (choiceOf (c .inside))
+saysB (clashes i j k) c = sameClash (firstClash (pointsOf (c .sheet)) (choiceOf (c .inside))) i j k
 
 abbrev rightB : Case → Bool
 rightB c =
     let s = c .sheet in
     let S = choiceOf (c .inside) in
     eqb (sheetNo s) 0
-    && (saysB (c .expected) (pointsOf s) S
+    && (saysB (c .expected) c
     && (sameBytes (plateOf s S) (s ++ c .added) && eqb (plateNo (s ++ c .added)) (readNo (c .expected))))
 
 abbrev eachB : List Case → Bool
@@ -299,21 +322,21 @@ same-clash (Between a b m) i j k e =
     let r : m ≡ k = same-kind m k (and-right (eqb b j) _ e₁) in
     λ d. Between (p d) (q d) (r d)
 
-says : (x : Expected) (s : List ℕ) (S : Choice) → Accepted s → saysB x (pointsOf s) S ≡ true → Says x (pointsOf s) S
-says onlyBest s S a e = onlyBestB-is (pointsOf s) oneEach S (a .proper .label-width .0) e
-says valid s S a e = dec-valid (pointsOf s) S (a .proper .label-width .0) .is e
-says (clashes i j k) s S a e = first-clash-right s S a .between i j k .0 (same-clash _ i j k e)
+says : (x : Expected) (c : Case) → Accepted (c .sheet) → saysB x c ≡ true → Says x c
+says made c a e = (eqb-true _ _ (and-left _ _ e), dec-bytes _ _ .is (and-right (eqb (choiceNo (c .sheet)) 0) _ e))
+says valid c a e = dec-valid (pointsOf (c .sheet)) (choiceOf (c .inside)) (a .proper .label-width .0) .is e
+says (clashes i j k) c a e = first-clash-right (c .sheet) (choiceOf (c .inside)) a .between i j k .0 (same-clash _ i j k e)
 
 right : (c : Case) → rightB c ≡ true → Right c
 right c e =
     let s = c .sheet in
     let S = choiceOf (c .inside) in
     let e₁ = and-right (eqb (sheetNo s) 0) _ e in
-    let e₂ = and-right (saysB (c .expected) (pointsOf s) S) _ e₁ in
+    let e₂ = and-right (saysB (c .expected) c) _ e₁ in
     let ok : sheetNo s ≡ 0 = eqb-true _ _ (and-left _ _ e) in
     record {
       accepted = ok;
-      expected = says (c .expected) s S (accepted s ok) (and-left _ _ e₁);
+      expected = says (c .expected) c (accepted s ok) (and-left _ _ e₁);
       plate = dec-bytes _ _ .is (and-left _ _ e₂);
       read = eqb-true _ _ (and-right (sameBytes (plateOf s S) (s ++ c .added)) _ e₂);
     }
@@ -326,7 +349,7 @@ each (c ∷ cs) e = (right c (and-left _ _ e), each cs (and-right (rightB c) _ e
 all-pass : T (eachB cases)
 unfolding twoBytes unlikeEarlier pointNo pointsNo questionsNo sheetNo plateSheetNo insideBelow insideSection
     pairs outsideSection plateOf among before insert outsideBelow outside nextMargin placedFrom placed conflictB
-    apartB withinB validB every weightBelow weight put everyChoice agreeB behindB onlyBestB pairClash ownClash firstOf laterClash
+    apartB withinB validB every weightBelow weight put bestFrom best bestChoiceFrom bestChoice bestPlate pairClash ownClash firstOf laterClash
     clashOf firstClash sheetOf insideList outsidePairs sectionsFit ascending pairsRight sectionsNo plateNo
 all-pass = tt
 

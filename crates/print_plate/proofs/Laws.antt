@@ -1,12 +1,14 @@
 -- The text by the promises of the plate maker and of the lines. Assumes nothing.
-use mathlib.Core.Path.{_≡_, refl, sym, ap, ap₂, _∙_}
+use mathlib.Core.Path.{_≡_, sym, ap, ap₂, _∙_}
 use mathlib.Core.List.{List}
-use Prim.Native.Nat.{ℕ, zero, suc, _+_, _*_, _≤_}
+use Prim.Native.Nat.{ℕ, _+_, _*_, _≤_}
 use lib.ListN.{length, take}
+use borrow.Author.Tests.{ne-eqb}
 use native.Mathlib.Omega.{arith}
 use Rattle.format.specs.Sizes.{plateRoom, workspaceCells}
 use Rattle.format.specs.Sheet.{pointCount}
 use Rattle.format.specs.MakingQuestions.{makingNo}
+use Rattle.format.specs.Plate.{bestChoiceOf, bestPlate}
 use Rattle.plate_reader.specs.DemandTwoReader.{parts}
 use Rattle.plate_maker.specs.Making.{Making}
 use Rattle.plate_maker.specs.MakingLaws.{refused-no, refused-some, made-none, made-accepted, made-start}
@@ -15,11 +17,7 @@ use Rattle.plate_maker.specs.declared.MakeAnswer.the-variants.{Made, Refused}
 use Rattle.lines.specs.Listing.{listingOf}
 use Rattle.lines.specs.DeskLines.{refusalLine}
 use Rattle.lines.specs.Writing.{Prints, prints-whole, prints-within}
-use Rattle.print_plate.specs.PrintedText.{TextBy, PrintedText, textRoom}
-
-refusal : (k : ℕ) (s : List ℕ) → (k ≡ 0 → ⊥) → TextBy k s (refusalLine k)
-refusal zero s some = absurd (some refl)
-refusal (suc k) s some = refl
+use Rattle.print_plate.specs.PrintedText.{printedText, textRoom}
 
 same-no : (s o w : List ℕ) →
     length o ≡ plateRoom →
@@ -30,25 +28,19 @@ same-no s o w out cells = ap₂ (makingNo s) (sym out) (sym cells)
 module _ {s o w o′ w′ t t′ : List ℕ} {answer : MakeAnswer} {r : ℕ} (m : Making s o w answer o′ w′)
     (out : length o ≡ plateRoom) (cells : length w ≡ workspaceCells) (room : textRoom ≤ length t) where
   pub made-text : {k : ℕ} → answer ≡ Made k → Prints (24 + 16 * pointCount (take k o′)) (listingOf (take k o′)) t r t′
-      → (r ≤ length t′) × PrintedText s (take r t′)
+      → (r ≤ length t′) × (take r t′ ≡ printedText s)
+  unfolding printedText bestPlate
   made-text {k} e x =
       let n : Making s o w (Made k) o′ w′ = rw e at m in
       let z : makingNo s plateRoom workspaceCells ≡ 0 = same-no s o w out cells ∙ made-none n in
       let points : pointCount (take k o′) ≡ pointCount s =
-      ap pointCount (made-start n) ∙ parts s (n .output .choice) (made-accepted n) .points in
-      let few : pointCount s ≤ 32 = made-accepted n .proper .few in (
-        prints-within x,
-        rw z (record {
-          choice = n .output .choice;
-          valid = n .output .valid;
-          best = n .output .best;
-          listed = prints-whole (omega arith) x ∙ ap listingOf (made-start n);
-        }),
-      )
+      ap pointCount (made-start n) ∙ parts s (bestChoiceOf s) (made-accepted n) .points in
+      let few : pointCount s ≤ 32 = made-accepted n .proper .few in
+      (prints-within x, rw z (prints-whole (omega arith) x ∙ ap listingOf (made-start n)))
 
-  pub refused-text : {k : ℕ} → answer ≡ Refused k → Prints 14 (refusalLine k) t r t′ → (r ≤ length t′) × PrintedText s (take r t′)
+  pub refused-text : {k : ℕ} → answer ≡ Refused k → Prints 14 (refusalLine k) t r t′ → (r ≤ length t′) × (take r t′ ≡ printedText s)
+  unfolding printedText
   refused-text {k} e x =
       let n : Making s o w (Refused k) o′ w′ = rw e at m in
       let z : makingNo s plateRoom workspaceCells ≡ k = same-no s o w out cells ∙ sym (refused-no n) in
-      let l : take r t′ ≡ refusalLine k = prints-whole (omega arith) x in
-      (prints-within x, rw (z, l) (refusal k s (refused-some n)))
+      (prints-within x, rw (z, ne-eqb k 0 (refused-some n)) (prints-whole (omega arith) x))

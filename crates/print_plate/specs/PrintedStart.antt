@@ -1,12 +1,12 @@
 -- The first 203 bytes of an input decide what is printed, one more than the largest sheet has: so print_plate needn't read all of an input.
 -- Assumes nothing.
-use mathlib.Core.Path.{_≡_, refl, sym, _∙_}
+use mathlib.Core.Path.{_≡_, refl, sym, ap, _∙_}
 use mathlib.Core.List.{List}
-use Prim.Native.Nat.{ℕ, zero, suc, _+_, _*_, _≤_, _<_}
+use Prim.Native.Nat.{ℕ, _+_, _*_, _≤_, _<_}
 use lib.Dec.{leb}
 use lib.ListN.{length, take}
 use lib.Seq.{take-all}
-use borrow.Author.Tests.{leb-true, leb-false}
+use borrow.Author.Tests.{leb-true, leb-false, ne-eqb}
 use native.Mathlib.Omega.{arith}
 use Rattle.labeling.specs.Decide.{decide}
 use Rattle.format.specs.Sizes.{sheetRoom, plateRoom, workspaceCells}
@@ -15,7 +15,7 @@ use Rattle.format.specs.Accepted.{accepted}
 use Rattle.format.specs.Asking.{then-first}
 use Rattle.format.specs.MakingQuestions.{askedNo, outputFits, choiceNo, choosingNo, makingNo}
 use Rattle.format.specs.Start.{start-decides}
-use Rattle.print_plate.specs.PrintedText.{TextBy, PrintedText}
+use Rattle.print_plate.specs.PrintedText.{printedText}
 
 -- a sheet that is refused is refused in making
 refused-making : (s : List ℕ) → (sheetNo s ≡ 0 → ⊥) → makingNo s plateRoom workspaceCells ≡ sheetNo s
@@ -23,11 +23,6 @@ unfolding makingNo choosingNo askedNo
 refused-making s some =
     let e : sheetNo s ≡ askedNo s (outputFits s plateRoom) workspaceCells = then-first (sheetNo s) _ (sheetNo s) some refl in
     sym (then-first (askedNo s (outputFits s plateRoom) workspaceCells) (choiceNo s) (sheetNo s) (λ z. some (e ∙ z)) e)
-
--- the text of a refusal has nothing of the bytes but the number
-refused-text : (k : ℕ) (s t text : List ℕ) → (k ≡ 0 → ⊥) → TextBy k s text → TextBy k t text
-refused-text zero s t text some e = absurd (some refl)
-refused-text (suc k) s t text some e = e
 
 module _ (k : ℕ) (s : List ℕ) (enough : sheetRoom < k) where
   -- an input of more than k bytes is no sheet
@@ -38,18 +33,19 @@ module _ (k : ℕ) (s : List ℕ) (enough : sheetRoom < k) where
       let few : pointCount s ≤ 32 = a .proper .few in
       omega arith
 
-  cut : k < length s → (text : List ℕ) → PrintedText (take k s) text → PrintedText s text
-  cut more text p =
+  -- so the text is that of a refusal, with the number of the first bytes
+  cut : k < length s → printedText (take k s) ≡ printedText s
+  unfolding printedText
+  cut more =
       let some : sheetNo s ≡ 0 → ⊥ = too-long more in
       let same : sheetNo (take k s) ≡ sheetNo s = start-decides k s (omega arith) in
       let a : makingNo (take k s) plateRoom workspaceCells ≡ sheetNo s =
       refused-making (take k s) (λ z. some (sym same ∙ z)) ∙ same in
-      let q : TextBy (sheetNo s) (take k s) text = rw a at p in
-      rw (refused-making s some) (refused-text (sheetNo s) (take k s) s text some q)
+      rw (a, refused-making s some, ne-eqb (sheetNo s) 0 some)
 
   -- THE FIRST BYTES' TEXT is the input's.
-  pub start-printed : (text : List ℕ) → PrintedText (take k s) text → PrintedText s text
-  start-printed text p =
+  pub start-printed : printedText (take k s) ≡ printedText s
+  start-printed =
       decide (leb (length s) k)
-      (λ e. let all : take k s ≡ s = take-all k s (leb-true _ _ e) in rw all at p)
-      (λ e. cut (leb-false _ _ e) text p)
+      (λ e. ap printedText (take-all k s (leb-true _ _ e)))
+      (λ e. cut (leb-false _ _ e))

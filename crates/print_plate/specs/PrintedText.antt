@@ -1,34 +1,22 @@
 -- What print_plate prints: "The printing program, given this sheet on standard input, writes exactly" a listing, or "A refusal prints one
 -- line" (document 01, "Plates worked out", P1). Assumes nothing.
-use mathlib.Core.Path.{_≡_}
+use mathlib.Core.Bool.{cond}
 use mathlib.Core.List.{List}
-use Prim.Native.Nat.{ℕ, zero, suc}
-use Rattle.labeling.specs.Points.{Choice}
-use Rattle.labeling.specs.Marks.{Valid}
-use Rattle.labeling.specs.Best.{count, bestCount}
+use Prim.Native.Nat.{ℕ}
+use lib.Dec.{eqb}
 use Rattle.format.specs.Sizes.{plateRoom, workspaceCells}
-use Rattle.format.specs.Sheet.{pointsOf}
 use Rattle.format.specs.MakingQuestions.{makingNo}
-use Rattle.format.specs.Plate.{plateOf}
+use Rattle.format.specs.Plate.{bestPlate}
 use Rattle.lines.specs.Listing.{listingOf}
 use Rattle.lines.specs.DeskLines.{refusalLine}
 
--- The text is the listing of a best plate of the sheet s. WHICH BEST CHOICE IT IS STAYS OPEN, because document 01 leaves it open: "Which
--- best choice is returned is open where several exist."
-pub record BestListing (s text : List ℕ) : Type 0 where
-  pub choice : Choice
-  pub valid : Valid (pointsOf s) choice
-  pub best : count (pointsOf s) choice ≡ bestCount (pointsOf s)
-  pub listed : text ≡ listingOf (plateOf s choice)
-
--- The text where the first no of making is k, 0 for none.
-abbrev pub TextBy : ℕ → List ℕ → List ℕ → Type 0
-TextBy zero s text = BestListing s text
-TextBy (suc k) s text = text ≡ refusalLine (suc k)
+-- The text of the sheet s where the first no of making is k: the listing of its best plate, or the line of the refusal.
+abbrev pub textBy : ℕ → List ℕ → List ℕ
+textBy k s = cond (eqb k 0) (listingOf (bestPlate s)) (refusalLine k)
 
 -- THE PRINTED TEXT of the sheet s: the output has room for every plate, and the workspace the cells that it needs.
-abbrev pub PrintedText : List ℕ → List ℕ → Type 0
-PrintedText s text = TextBy (makingNo s plateRoom workspaceCells) s text
+unfoldable pub printedText : List ℕ → List ℕ
+printedText s = textBy (makingNo s plateRoom workspaceCells) s
 
 -- the room for every text: the listing of 32 points has at most 24 + 16 · 32 bytes
 abbrev pub textRoom : ℕ

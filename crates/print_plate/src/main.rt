@@ -1,4 +1,4 @@
-// Prints the listing of a best plate of the sheet on standard input, or `refused` and the number of the first no. Where a read or a write
+// Prints the listing of the best plate of the sheet on standard input, or `refused` and the number of the first no. Where a read or a write
 // fails it stops, with a line on standard error.
 // The buffer is enough for an input of any length: one byte more than the largest sheet has decides the text (specs/PrintedStart.antt).
 use format::PLATE_ROOM;
@@ -12,7 +12,7 @@ use streams::write_output;
 ghost use mathlib.Core.Path.{_≡_};
 ghost use Prim.Native.Nat.{_≤_};
 ghost use lib.ListN.{length, take};
-ghost use Rattle.print_plate.specs.PrintedText.{PrintedText, textRoom};
+ghost use Rattle.print_plate.specs.PrintedText.{printedText, textRoom};
 
 // Room for the listing of 32 points, 24 + 16 · 32 bytes.
 const TEXT_ROOM: usize = 536;
@@ -20,7 +20,7 @@ const TEXT_ROOM: usize = 536;
 // Makes a plate of the sheet and writes its listing into the text, or the line of its refusal: the length of what it writes.
 fn put_text(sheet: &[u8], text: &mut [u8]) -> usize
     requires { ⌜ textRoom ≤ length (now text) ⌝ }
-    ensures { λ r. ⌜ (r ≤ length (now (text .exit))) × PrintedText (now (sheet .entry)) (take r (now (text .exit))) ⌝ }
+    ensures { λ r. ⌜ (r ≤ length (now (text .exit))) × (take r (now (text .exit)) ≡ printedText (now (sheet .entry))) ⌝ }
 {
     let mut output = [0u8; PLATE_ROOM];
     let mut workspace = [0u16; WORKSPACE_CELLS];
@@ -32,7 +32,7 @@ fn put_text(sheet: &[u8], text: &mut [u8]) -> usize
 
 // Writes the text to standard output. What it asks says that the text is the sheet's.
 fn write_text(sheet: &[u8], text: &[u8])
-    requires { ⌜ PrintedText (now sheet) (now text) ⌝ }
+    requires { ⌜ now text ≡ printedText (now sheet) ⌝ }
 {
     write_output(text);
 }

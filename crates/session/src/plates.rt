@@ -1,10 +1,8 @@
-// The calls without a desk, and their lines on standard output: a sheet made into a plate, and a plate read. A line has what document 01
-// fixes and nothing else.
+// The calls without a desk, and their lines on standard output: a sheet made into a plate, and a plate read.
 use format::PLATE_ROOM;
 use format::WORKSPACE_CELLS;
 use plate_maker::MakeAnswer;
 use plate_reader::PlateAnswer;
-use plate_reader::inside_count;
 use streams::write_output;
 
 // PIECES OF A LINE. Each is written if all before it was, and says whether it was.
@@ -33,21 +31,23 @@ fn end_line(so_far: bool) -> bool {
     print_word(so_far, b"\n")
 }
 
-// SHEETS AND PLATES
-
-fn print_validity(so_far: bool, plate: &[u8]) -> bool {
-    match plate_reader::read_plate(plate) {
-        PlateAnswer::Accepted(_) => print_word(so_far, b" valid"),
-        PlateAnswer::Refused(_) => print_word(so_far, b" invalid"),
+// Each byte as a number.
+fn print_bytes(so_far: bool, bytes: &[u8]) -> bool {
+    let mut printed = so_far;
+    let mut k = 0;
+    while k < bytes.len() {
+        printed = print_number(printed, bytes[k] as u64);
+        k += 1;
     }
+    printed
 }
 
-// The line of a made plate.
+// SHEETS AND PLATES
+
+// The line of a made plate, with all its bytes.
 fn print_made(plate: &[u8]) -> bool {
-    let word = print_word(true, b"sheet");
-    let points = print_number(word, format::point_count(plate) as u64);
-    let inside = print_number(points, inside_count(plate) as u64);
-    end_line(print_validity(inside, plate))
+    let word = print_word(true, b"sheet made");
+    end_line(print_bytes(word, plate))
 }
 
 fn print_refused_sheet(no: u8) -> bool {
@@ -65,16 +65,6 @@ pub(crate) fn run_sheet(sheet: &[u8]) -> bool {
     }
 }
 
-fn print_positions(so_far: bool, list: &[u8]) -> bool {
-    let mut printed = so_far;
-    let mut k = 0;
-    while k < list.len() {
-        printed = print_number(printed, list[k] as u64);
-        k += 1;
-    }
-    printed
-}
-
 fn print_plate_answer(so_far: bool, answer: PlateAnswer) -> bool {
     match answer {
         PlateAnswer::Accepted(_) => print_word(so_far, b"accepted"),
@@ -86,5 +76,5 @@ fn print_plate_answer(so_far: bool, answer: PlateAnswer) -> bool {
 pub(crate) fn run_plate(plate: &[u8]) -> bool {
     let word = print_word(true, b"plate ");
     let answered = print_plate_answer(word, plate_reader::read_plate(plate));
-    end_line(print_positions(answered, plate_reader::inside_list(plate)))
+    end_line(print_bytes(answered, plate_reader::inside_list(plate)))
 }

@@ -4,6 +4,7 @@ use mathlib.Core.Path.{_≡_, sym, _∙_}
 use Rattle.format.specs.Accepted.{none-sheet}
 use lib.ListN.{length}
 use Rattle.format.specs.MakingQuestions.{makingNo, none-making}
+use Rattle.optimum.specs.Choosing.{chosen-no, chosen-workspace, chosen-split}
 use Rattle.plate_maker.specs.MakingLaws.{refused-making, made-making}
 use Rattle.plate_maker.proofs.make.Statement.{statement}
 use Rattle.plate_maker.proofs.make.Tie as tie
@@ -18,7 +19,7 @@ first-no : (c : tie.After-best-choice)
     (length (c .before .before .before .before .before .before .args .output .now))
     (length (c .before .before .before .before .before .before .args .workspace .now))
 unfolding makingNo
-first-no c = rw (← c .before .before .output-fits .ensures) (c .best-choice .ensures .no)
+first-no c = rw (← c .before .before .output-fits .ensures) (chosen-no (c .best-choice .ensures))
 
 best-choice-requires : tie.Need-best-choice-requires
 best-choice-requires c κs = search needs
@@ -28,15 +29,15 @@ same-length c = search needs
 
 returns : tie.Need-returns
 returns c =
-    let choice = c .before .before .before .before .best-choice .ensures in
-    refused-making _ _ _ _ _ (first-no (c .before .before .before .before)) (c .if1 .taken) (choice .workspace)
+    let choice = c .before .before .before .before in
+    refused-making _ _ _ _ _ (first-no choice) (c .if1 .taken) (chosen-workspace (choice .best-choice .ensures))
 
 write-best-requires : tie.Need-write-best-requires
 write-best-requires c κs =
     let choice = c .before .before .before .before .before .best-choice .ensures in
     let none = c .before .if1 .left in
     let f = none-making _ _ _ .is (sym (first-no (c .before .before .before .before .before)) ∙ none) in
-    (none-sheet _ .of (f .0 .0), choice .chosen none, f .0 .1 .0)
+    (none-sheet _ .of (f .0 .0), chosen-split choice none, f .0 .1 .0)
 
 same-length-2 : tie.Need-same-length-2
 same-length-2 c = search needs
@@ -46,10 +47,10 @@ same-length-3 c = search needs
 
 returns-2 : tie.Need-returns-2
 returns-2 c =
-    let choice = c .before .before .before .before .before .before .before .before .best-choice .ensures in
+    let choice = c .before .before .before .before .before .before .before .before in
     let best = c .before .before .write-best .ensures in
-    made-making _ _ _ _ _ _ _ (first-no (c .before .before .before .before .before .before .before .before))
-    (c .before .before .before .before .if1 .left) (choice .workspace) (best .0) (best .1)
+    made-making _ _ _ _ _ _ _ (first-no choice) (c .before .before .before .before .if1 .left)
+    (chosen-workspace (choice .best-choice .ensures)) (best .0) (best .1)
 
 pub make-spec : {M : Type 1} → statement M
 make-spec =

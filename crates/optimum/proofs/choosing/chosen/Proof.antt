@@ -56,7 +56,7 @@ returns : tie.Need-returns
 returns c =
     let clear = c .before .before .before .before in
     let solved = clear .before .before .before .before .solve .ensures .0 in (
-      none-chosen _ _ (c .nothing-chosen .ensures)
+      none-chosen (start-of clear .args .sheet .now) _ (c .nothing-chosen .ensures)
           (none-valid _ _ _ (fine (start-of clear)) (ready (limits-of clear)) solved (c .before .if1 .taken)),
       zero clear,
     )

@@ -1,12 +1,20 @@
 -- `orders::given::weight_of` meets its contract. Assumes nothing.
-use mathlib.Core.Path.{refl}
+use borrow.Author.Needs.{needs}
+use native.Mathlib.Omega.{arith}
+use Rattle.labeling.specs.TieBreak.{tieBroken}
 use Rattle.orders.specs.Given.{weightOf}
 use Rattle.orders.proofs.given.weight_of.Statement.{statement}
 use Rattle.orders.proofs.given.weight_of.Tie as tie
 
+tie-break-requires : tie.Need-tie-break-requires
+tie-break-requires c κs = search needs
+
+add-result : tie.Need-add-result
+add-result c = search needs
+
 returns : tie.Need-returns
-unfolding weightOf
-returns c = refl
+unfolding weightOf tieBroken
+returns c = omega (arith, c .tie-break .ensures .0)
 
 pub weight-of-spec : {M : Type 1} → statement M
-weight-of-spec = tie.close (tie.spec returns)
+weight-of-spec = tie.close (tie.spec tie-break-requires add-result returns)

@@ -29,7 +29,9 @@ position-after-requires c κs =
     omega (arith, kept (c .before .before), c .before .before .before .before .pre .2 (c .before .before .loop .k) (omega arith))
 
 weight-of-requires : tie.Need-weight-of-requires Inv-loop μ-loop
-weight-of-requires c κs = search needs
+weight-of-requires c κs =
+    let start = c .before .before .before in
+    omega (arith, c .position-after .ensures, kept start, start .before .before .pre .2 (start .loop .k) (omega arith))
 
 permission-of-requires : tie.Need-permission-of-requires Inv-loop μ-loop
 permission-of-requires c κs = search needs

@@ -1,16 +1,16 @@
--- `session::plates::print_positions` meets its contract. Assumes nothing.
+-- `session::plates::print_bytes` meets its contract. Assumes nothing.
 use borrow.Author.Needs.{needs}
 use Prim.Native.Nat.{_-_, _≤_}
 use lib.ListN.{length}
 use native.Mathlib.Omega.{arith}
-use Rattle.session.proofs.plates.print_positions.Statement.{statement}
-use Rattle.session.proofs.plates.print_positions.Tie as tie
+use Rattle.session.proofs.plates.print_bytes.Statement.{statement}
+use Rattle.session.proofs.plates.print_bytes.Tie as tie
 
 abbrev Inv-loop : tie.InvT-loop
-Inv-loop so-far list printed₀ k₀ printed k = k ≤ length list
+Inv-loop so-far bytes printed₀ k₀ printed k = k ≤ length bytes
 
 abbrev μ-loop : tie.MeasureT-loop
-μ-loop so-far list printed₀ k₀ printed k = length list - k
+μ-loop so-far bytes printed₀ k₀ printed k = length bytes - k
 
 loop-holds : tie.Need-loop-holds Inv-loop μ-loop
 loop-holds c = search needs
@@ -36,8 +36,8 @@ loop-again c = search needs
 returns : tie.Need-returns Inv-loop μ-loop
 returns c = search needs
 
-pub print-positions-spec : {M : Type 1} → statement M
-print-positions-spec =
+pub print-bytes-spec : {M : Type 1} → statement M
+print-bytes-spec =
     tie.close
     (tie.spec
     Inv-loop
