@@ -60,7 +60,11 @@ uint32_t plate_check_sheet(const uint8_t *sheet, size_t sheet_len);
 /* Making. The number is that of the first no (11 to 22, 61), 0 if a plate is
    made; written is the plate's length, 0 on a refusal. Bytes of the output past
    the plate are untouched, and the whole workspace is zero afterwards. 61 says
-   that no choice of the sheet is valid. */
+   that no choice of the sheet is valid.
+
+   A sheet has one plate that is made. It has the best count inside; of several
+   such choices it is that with the first point inside, in the sheet's order, at
+   which they differ. */
 struct plate_make_result {
     uint32_t number;
     uint32_t spare; /* 0 */

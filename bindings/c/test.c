@@ -1,5 +1,5 @@
-/* What plates.h says of slices of count 0, of the structs' bytes, of a listing's
-   buffer and of a desk's fields. `bindings/run` builds and runs it; it prints
+/* What plates.h says of slices of count 0, of the structs' bytes, of the plate
+   that is made, of a listing's buffer and of a desk's fields. `bindings/run` builds and runs it; it prints
    what doesn't hold. */
 #include "plates.h"
 
@@ -200,6 +200,25 @@ static void no_valid_choice(void)
     CHECK(same(workspace, zeros, sizeof workspace));
 }
 
+/* Document 01's tie, and the two points exchanged: one of them can be inside, and
+   it is the sheet's first, document 02 (d). */
+static void a_tie(void)
+{
+    static const uint8_t sheets[2][22] = {
+        {1, 20, 0, 12, 0, 4, 0, 2, 0, 2, 1, 0, 4, 0, 3, 0, 2, 0, 3, 0, 4, 0},
+        {1, 20, 0, 12, 0, 4, 0, 2, 0, 2, 1, 0, 3, 0, 4, 0, 2, 0, 4, 0, 3, 0},
+    };
+    static const uint8_t added[5] = {1, 0, 1, 1, 0};
+    uint8_t output[PLATE_OUTPUT];
+    for (size_t i = 0; i < 2; i++) {
+        struct plate_make_result made = plate_make(
+            sheets[i], sizeof sheets[i], output, sizeof output, workspace, PLATE_WORKSPACE);
+        CHECK(made.number == 0 && made.written == sizeof sheets[i] + sizeof added);
+        CHECK(same(output, sheets[i], sizeof sheets[i]));
+        CHECK(same(output + sizeof sheets[i], added, sizeof added));
+    }
+}
+
 /* A spare byte that isn't 0 goes along, and changes no answer; a load puts 0
    there. */
 static void a_spare_byte_goes_along(void)
@@ -227,6 +246,7 @@ int main(void)
     listing_of_no_plate();
     bytes_of_a_desk();
     no_valid_choice();
+    a_tie();
     a_spare_byte_goes_along();
     return failures != 0;
 }

@@ -31,10 +31,14 @@ pub fn check_sheet(sheet: &[u8]) -> Result<(), Refusal> {
     answer(ffi::check_sheet(sheet))
 }
 
-/// Makes a best plate and gives its length. The bytes of the output past the
+/// Makes the best plate and gives its length. The bytes of the output past the
 /// plate are untouched and the whole workspace is zero; on a refusal both are
 /// as they were, but for 61, which says that no choice of the sheet is valid:
 /// with it the whole workspace is zero too.
+///
+/// A sheet has one plate that is made. It has the best count inside; of several
+/// such choices it is that with the first point inside, in the sheet's order, at
+/// which they differ.
 pub fn make(sheet: &[u8], output: &mut [u8], workspace: &mut [u16]) -> Result<usize, Refusal> {
     let made = ffi::make(sheet, output, workspace);
     written(&made, output.len())
