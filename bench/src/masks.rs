@@ -1,6 +1,6 @@
-//! Another maker by the same recurrence: the whole table is filled from small
-//! slabs to great ones, with sets of points as bits of a word. The loop visits
-//! open points alone, and every test of two points is a bit.
+//! Another maker by the same recurrence, with the same weights: the whole table is
+//! filled from small slabs to great ones, with sets of points as bits of a word.
+//! The loop visits open points alone, and every test of two points is a bit.
 
 use crate::plate::{check_make, write_plate, Points, PLACES};
 use crate::table::{get, place, put};
@@ -12,6 +12,8 @@ struct Map {
     n: usize,
     rank: [u8; LONG],
     order: [u8; LONG],
+    /// What i weighs if it is inside.
+    weight: [u64; LONG],
     /// Whether i's label is on the map.
     allowed: [bool; LONG],
     /// The topmost label that reaches over i's row on its right, or 0: also the
@@ -44,7 +46,8 @@ fn greatest(set: u64) -> usize {
     (63 - (set | 1).leading_zeros()) as usize
 }
 
-/// The parts' values put together with what is inside so far: 0 if one of them is.
+/// The parts' values put together with the weight inside so far: 0 if one of
+/// them is.
 #[inline]
 fn joined(acc: u64, lower: u64, upper: u64) -> u64 {
     if lower == 0 || upper == 0 {
@@ -66,6 +69,7 @@ impl Map {
             n,
             rank: [n as u8; LONG],
             order: [0; LONG],
+            weight: [0; LONG],
             allowed: [false; LONG],
             low: [0; LONG],
             high: [n as u8 + 1; LONG],
@@ -75,6 +79,7 @@ impl Map {
             level: [0; LONG],
         };
         map.rank[..PLACES].copy_from_slice(&points.rank);
+        map.weight[..PLACES].copy_from_slice(&points.weight);
         map.allowed[..PLACES].copy_from_slice(&points.allowed);
         map.order[..points.order.len()].copy_from_slice(&points.order);
         let Points { w, h, .. } = *points;
@@ -149,7 +154,7 @@ impl Map {
             if !self.good(a, b, q, p) {
                 return best;
             }
-            acc += 1;
+            acc += self.weight[p];
         }
         best.max(acc)
     }
@@ -193,7 +198,7 @@ impl Map {
                 return;
             }
             inside[p] = true;
-            acc += 1;
+            acc += self.weight[p];
         }
     }
 }

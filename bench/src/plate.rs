@@ -1,5 +1,6 @@
-//! Sheet and plate as bytes (documents 01 and 02 (a) to (c)): the questions in
-//! their order, the two orders of the points, and a plate written from a choice.
+//! Sheet and plate as bytes (documents 01 and 02 (a) to (d)): the questions in
+//! their order, the two orders of the points, what each weighs, and a plate
+//! written from a choice.
 
 /// The most points a sheet can have.
 pub const MOST: usize = 32;
@@ -75,6 +76,14 @@ pub fn check_make(sheet: &[u8], output: &[u8], workspace: &[u16]) -> Result<usiz
     Ok(n)
 }
 
+/// What the point at a position weighs if it is inside, so that the preferred one
+/// of the best choices has the greatest sum. The high half of a sum is the count,
+/// and the low half has a bit for each point, the first position's the highest.
+#[inline]
+fn weight(position: u32) -> u64 {
+    (1 << 32) + (0x8000_0000 >> position)
+}
+
 /// A sheet's points in height order, 1 to n; 0 and n + 1 are the boundaries.
 pub struct Points {
     pub n: usize,
@@ -87,6 +96,8 @@ pub struct Points {
     pub row: [u16; PLACES],
     /// The position on the sheet.
     pub position: [u8; PLACES],
+    /// What it weighs if it is inside.
+    pub weight: [u64; PLACES],
     /// Whether the label, inside, is on the map.
     pub allowed: [bool; PLACES],
     /// The place in right order, from 0; n for both boundaries.
@@ -105,6 +116,7 @@ impl Points {
             column: [0; PLACES],
             row: [0; PLACES],
             position: [0; PLACES],
+            weight: [0; PLACES],
             allowed: [false; PLACES],
             rank: [n as u8; PLACES],
             order: [0; MOST],
@@ -124,6 +136,7 @@ impl Points {
             points.row[i] = row as u16;
             points.column[i] = column as u16;
             points.position[i] = (*key & 0x3f) as u8;
+            points.weight[i] = weight(*key & 0x3f);
             points.allowed[i] =
                 points.column[i] + points.w <= width && points.row[i] + points.h <= height;
             *key = (column << 12 | row) << 6 | i as u32;

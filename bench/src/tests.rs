@@ -99,38 +99,64 @@ fn valid(sheet: &[u8], inside: u32) -> bool {
         .all(|i| (!is_in(i) || on_map(points[i])) && (0..points.len()).all(|j| free(i, j)))
 }
 
-/// The best count of a sheet, or 20 or 61. No other question is asked.
-fn best(sheet: &[u8]) -> Result<u32, u8> {
+/// The best choices of a sheet, by trying all; or 20 or 61. No other question is
+/// asked.
+fn best_choices(sheet: &[u8]) -> Result<Vec<u32>, u8> {
     let (_, _, mut points) = read(sheet);
     points.sort_unstable();
     if points.windows(2).any(|pair| pair[0] == pair[1]) {
         return Err(20);
     }
-    let counts = (0..1u32 << sheet[9]).filter(|&inside| valid(sheet, inside));
-    counts.map(u32::count_ones).max().ok_or(61)
+    let all = 0..1u32 << sheet[9];
+    let mut choices: Vec<u32> = all.filter(|&inside| valid(sheet, inside)).collect();
+    let counts = choices.iter().map(|inside| inside.count_ones());
+    let best = counts.max().ok_or(61)?;
+    choices.retain(|inside| inside.count_ones() == best);
+    Ok(choices)
 }
 
-/// Checks all of a plate but that it is best; its inside count.
-fn count_of(sheet: &[u8], plate: &[u8]) -> u32 {
+/// The preferred one of two best choices, by document 02 (d): at the first point
+/// where they differ, the one with it inside.
+fn preferred(one: u32, other: u32) -> u32 {
+    let is_in = |choice: u32, i: u32| choice >> i & 1 == 1;
+    for i in 0..32 {
+        if is_in(one, i) != is_in(other, i) {
+            return if is_in(one, i) { one } else { other };
+        }
+    }
+    one
+}
+
+/// The plate of a choice.
+fn plate_of(sheet: &[u8], choice: u32) -> Vec<u8> {
     let (_, h, points) = read(sheet);
-    let (start, rest) = plate.split_at(sheet.len());
-    assert_eq!(start, sheet);
-    let (inside, rest) = rest[1..].split_at(usize::from(rest[0]));
-    assert!(inside.windows(2).all(|pair| pair[0] < pair[1]));
-    assert!(inside.iter().all(|&i| usize::from(i) < points.len()));
-    let choice = inside.iter().fold(0, |choice, &i| choice | 1 << i);
-    assert!(valid(sheet, choice));
-    let mut outside: Vec<usize> = (0..points.len()).filter(|i| choice >> i & 1 == 0).collect();
+    let all = 0..points.len();
+    let (inside, mut outside): (Vec<_>, Vec<_>) = all.partition(|i| choice >> i & 1 == 1);
     outside.sort_by_key(|&i| (-points[i].1, points[i].0));
-    let mut expected = vec![outside.len() as u8];
+    let mut plate = sheet.to_vec();
+    plate.push(inside.len() as u8);
+    plate.extend(inside.iter().map(|&i| i as u8));
+    plate.push(outside.len() as u8);
     let mut column = 0;
     for (k, &i) in outside.iter().enumerate() {
         let near = k > 0 && points[outside[k - 1]].1 - points[i].1 <= h;
         column = if near { column + 1 } else { 0 };
-        expected.extend([i as u8, column]);
+        plate.extend([i as u8, column]);
     }
-    assert_eq!(rest, expected);
-    inside.len() as u32
+    plate
+}
+
+/// The plate of the preferred one of a sheet's best choices.
+fn preferred_plate(sheet: &[u8], best: &[u32]) -> Vec<u8> {
+    let choice = best.iter().copied().reduce(preferred);
+    plate_of(sheet, choice.expect("a best choice"))
+}
+
+/// The choice of a plate's inside list.
+fn choice_of(sheet: &[u8], plate: &[u8]) -> u32 {
+    let list = &plate[sheet.len()..];
+    let inside = &list[1..=usize::from(list[0])];
+    inside.iter().fold(0, |choice, &i| choice | 1 << i)
 }
 
 /// Document 01's P1.
@@ -171,6 +197,13 @@ fn added(points: &[(u8, u8)]) -> Result<Vec<u8>, u8> {
     plates[0].clone().map(|plate| plate[sheet.len()..].to_vec())
 }
 
+/// Every maker's plate of a sheet is this one.
+fn assert_plates(sheet: &[u8], plate: &[u8]) {
+    for make in MAKERS {
+        assert_eq!(made(*make, sheet, &[0; WORKSPACE]), Ok(plate.to_vec()));
+    }
+}
+
 /// Document 02 (a): only a label that is wholly on the map is inside.
 #[test]
 fn the_frame() {
@@ -194,6 +227,82 @@ fn one_row() {
     assert_eq!(added(&[(0, 3), (2, 3), (4, 3)]), Err(61));
     assert_eq!(added(&[(2, 3), (18, 3)]), Err(61));
     assert_eq!(added(&[(2, 3), (2, 4), (2, 3)]), Err(20));
+}
+
+/// Document 02 (d) on document 01's tie: the first point is inside, whichever of
+/// the two it is.
+#[test]
+fn a_tie_of_two() {
+    assert_eq!(added(&[(4, 3), (3, 4)]), Ok(vec![1, 0, 1, 1, 0]));
+    assert_eq!(added(&[(3, 4), (4, 3)]), Ok(vec![1, 0, 1, 1, 0]));
+}
+
+/// Six points up to the left, a to f, of which just neighbours can't both be
+/// inside. The best choices are ace, acf, adf and bdf, and the sheet's order says
+/// which is preferred.
+#[test]
+fn a_tie_of_four() {
+    let [a, b, c, d, e, f] = [(9, 1), (8, 2), (7, 3), (6, 4), (5, 5), (4, 6)];
+    let best = best_choices(&like_p1(&[a, b, c, d, e, f]));
+    assert_eq!(best, Ok(vec![0b010101, 0b100101, 0b101001, 0b101010]));
+
+    let ace = added(&[a, b, c, d, e, f]);
+    assert_eq!(ace, Ok(vec![3, 0, 2, 4, 3, 5, 0, 3, 1, 1, 2]));
+    let acf = added(&[c, f, a, b, d, e]);
+    assert_eq!(acf, Ok(vec![3, 0, 1, 2, 3, 5, 0, 4, 1, 3, 2]));
+    let adf = added(&[d, e, c, f, a, b]);
+    assert_eq!(adf, Ok(vec![3, 0, 3, 4, 3, 1, 0, 2, 1, 5, 2]));
+    let bdf = added(&[f, e, d, c, b, a]);
+    assert_eq!(bdf, Ok(vec![3, 0, 2, 4, 3, 1, 0, 3, 1, 5, 2]));
+    // Here the second, third and fourth point are ace.
+    let bdf = added(&[b, e, a, c, d, f]);
+    assert_eq!(bdf, Ok(vec![3, 0, 4, 5, 3, 1, 0, 3, 1, 2, 2]));
+}
+
+/// Sixteen ties of two, from the top down and far from each other: of each two the
+/// first is inside. By turns it is the lower and the upper one.
+#[test]
+fn sixteen_ties() {
+    for turn in 0..2 {
+        let mut bytes = vec![1, 20, 0, 64, 0, 4, 0, 2, 0, 32];
+        for k in 0..16 {
+            let row = 60 - 4 * k;
+            let mut two = [(4, row), (3, row + 1)];
+            two.rotate_left(usize::from((k + turn) % 2));
+            for (call, (column, row)) in (1 + 2 * k..).zip(two) {
+                bytes.extend([call, 0, column, 0, row, 0]);
+            }
+        }
+        let mut plate = bytes.clone();
+        plate.push(16);
+        plate.extend((0..16).map(|k| 2 * k));
+        plate.push(16);
+        plate.extend((0..16).flat_map(|k| [2 * k + 1, 0]));
+        assert_plates(&bytes, &plate);
+    }
+}
+
+/// The choice with the points of these rows inside.
+fn choice_by_row(sheet: &[u8], inside: impl Fn(i32) -> bool) -> u32 {
+    let (_, _, points) = read(sheet);
+    let bit = |(i, &(_, row))| u32::from(inside(row)) << i;
+    points.iter().enumerate().map(bit).sum()
+}
+
+/// Points up to the left, one in each row, of which just neighbours can't both be
+/// inside. A best choice has one of the rows 0 and 1, one of 2 and 3, and so on:
+/// the lower ones of the first k pairs, and above them the upper ones.
+#[test]
+fn staircases() {
+    let mut random = Random::new(32);
+    for round in 0..400 {
+        let pairs = 1 + round % 16;
+        let points = (0..2 * pairs).map(|row| (31 - row, row)).collect();
+        let bytes = sheet(&mut random, (35, 33), (4, 2), points);
+        let choice = |k: i32| choice_by_row(&bytes, |row| (row % 2 == 0) == (row / 2 < k));
+        let best: Vec<u32> = (0..=pairs as i32).map(choice).collect();
+        assert_plates(&bytes, &preferred_plate(&bytes, &best));
+    }
 }
 
 /// All listings of a plate are this text: in a buffer that is just as long, and
@@ -292,28 +401,47 @@ fn crowded(random: &mut Random, n: usize) -> Vec<u8> {
     sheet(random, map, label, points)
 }
 
+/// Points up to the left, at times two in a row, with room for each label: often
+/// several choices are best.
+fn leaning(random: &mut Random, n: usize) -> Vec<u8> {
+    let label = (random.within(1, 6), random.within(1, 5));
+    let map = (4 * n + label.0, 2 * n + label.1);
+    let (mut column, mut row) = (4 * n, 0);
+    let points = (0..n)
+        .map(|_| {
+            column -= random.within(1, 4);
+            row += random.within(0, 2);
+            (column, row)
+        })
+        .collect();
+    sheet(random, map, label, points)
+}
+
 #[test]
-fn best_of_all_choices() {
+fn preferred_of_all_choices() {
     let mut random = Random::new(2021);
     let workspaces = workspaces();
-    let (mut in_rows, mut without, mut on_pixels) = (0, 0, 0);
-    for round in 0..8000 {
-        let draw = [any, tiny, crowded, ridge_lines][round % 4];
-        let n = if round % 20 < 4 { 10 } else { round / 4 % 8 };
+    let (mut in_rows, mut tied, mut without, mut on_pixels) = (0, 0, 0, 0);
+    for round in 0..10000 {
+        let draw = [any, tiny, crowded, ridge_lines, leaning][round % 5];
+        let n = if round % 25 < 5 { 10 } else { round / 5 % 8 };
         let bytes = draw(&mut random, n);
-        let best = best(&bytes);
-        match best {
-            Ok(_) => in_rows += usize::from(shares_rows(&bytes)),
+        let best = best_choices(&bytes);
+        match &best {
+            Ok(best) => {
+                in_rows += usize::from(shares_rows(&bytes));
+                tied += usize::from(best.len() > 1);
+            }
             Err(61) => without += 1,
             Err(_) => on_pixels += 1,
         }
+        let expected = best.map(|best| preferred_plate(&bytes, &best));
         for make in MAKERS {
             let lent = &workspaces[random.within(0, 3)];
-            let plate = made(*make, &bytes, lent);
-            assert_eq!(plate.map(|plate| count_of(&bytes, &plate)), best);
+            assert_eq!(made(*make, &bytes, lent), expected);
         }
     }
-    assert!(in_rows > 1000 && without > 200 && on_pixels > 200);
+    assert!(in_rows > 1000 && tied > 500 && without > 200 && on_pixels > 200);
 }
 
 #[test]
@@ -323,9 +451,11 @@ fn families_are_made() {
         for bytes in &family.sheets {
             assert_eq!(usize::from(bytes[9]), family.points);
             assert_eq!(shares_rows(bytes), family.name == "ridge lines");
-            let count = |make: &Make| count_of(bytes, &made(*make, bytes, &zeros).unwrap());
-            let first = count(&MAKERS[0]);
-            assert!(MAKERS.iter().all(|make| count(make) == first));
+            let plate = made(MAKERS[0], bytes, &zeros).unwrap();
+            let choice = choice_of(bytes, &plate);
+            assert!(valid(bytes, choice));
+            assert_eq!(plate, plate_of(bytes, choice));
+            assert_plates(bytes, &plate);
         }
     }
 }
