@@ -28,8 +28,8 @@ struct Lent {
     filled: u16,
 }
 
-/// What a making leaves: the answer; the plate's sheet bytes and inside count;
-/// whether the rest is as documents 01 and 02 (c) say.
+/// What a making leaves: the answer; the plate; whether the rest is as documents
+/// 01 and 02 (c) say.
 fn outcome(make: Make, sheet: &[u8], lent: Lent) -> (Result<usize, u8>, Vec<u8>, bool) {
     let mut output = vec![0xa5; lent.output];
     let mut workspace = vec![lent.filled; lent.workspace];
@@ -42,11 +42,11 @@ fn outcome(make: Make, sheet: &[u8], lent: Lent) -> (Result<usize, u8>, Vec<u8>,
     let clean = written <= output.len()
         && output[written..].iter().all(|&byte| byte == 0xa5)
         && workspace.iter().all(|&number| number == left);
-    output.truncate(written.min(sheet.len() + 1));
+    output.truncate(written);
     (answer, output, clean)
 }
 
-/// Whether all makers agree on a sheet, the choice left aside.
+/// Whether all makers agree on a sheet.
 fn agree(sheet: &[u8], lent: Lent) -> bool {
     let outcomes = MAKERS.map(|make| outcome(make, sheet, lent));
     outcomes
