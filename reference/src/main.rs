@@ -3,12 +3,12 @@
 use std::io::{self, Read, Write};
 use std::process::ExitCode;
 
-use reference::{best_choice, check_sheet, listing, read_plate, run_script, Sheet};
+use reference::{best_choice, check_sheet, printed, read_plate, run_script, Sheet};
 
 const USAGE: &str = "usage: reference COMMAND < BYTES
 check   a sheet: `accepted` or `refused K`
 best    a sheet: its best count, or `refused K` (also called list-best-count)
-list    a sheet: the listing of a best plate, or `refused K`
+list    a sheet: the listing of its best plate, or `refused K`
 read    a plate: `accepted I` and the inside positions, or `refused K`
 desk    a script of loads and marks: one line for each call
 ";
@@ -18,7 +18,7 @@ fn main() -> ExitCode {
     let answer: fn(&[u8]) -> String = match command.as_str() {
         "check" => check,
         "best" | "list-best-count" => best,
-        "list" => list,
+        "list" => printed,
         "read" => read,
         "desk" => run_script,
         _ => {
@@ -50,12 +50,6 @@ fn best(sheet: &[u8]) -> String {
         Ok(None) => "refused 61\n".to_string(),
         Err(number) => format!("refused {number}\n"),
     }
-}
-
-fn list(bytes: &[u8]) -> String {
-    let best = Sheet::read(bytes).map(|sheet| best_choice(&sheet));
-    // Without a best choice the sheet is refused, whatever the choice is.
-    listing(bytes, best.ok().flatten().unwrap_or_default())
 }
 
 fn read(plate: &[u8]) -> String {

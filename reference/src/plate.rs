@@ -1,4 +1,4 @@
-//! Plates: making their bytes, reading them, the questions of a making, and the printed listing.
+//! Plates: their bytes, reading them, making them with the questions of a making, and what is printed.
 
 use crate::margin::{inside_positions, margin_columns, margin_width, outside_pairs};
 use crate::pixels::valid;
@@ -87,24 +87,24 @@ fn split_sections(sections: &[u8]) -> Option<(&[u8], &[u8])> {
     Some((inside, pairs))
 }
 
-/// The questions of a making: 0 if a plate is made, else the number of the first no. 61 comes last,
+/// A making: the plate of the preferred best choice, or the number of the first no. 61 comes last,
 /// exactly if no choice of the sheet is valid. On a no the output is untouched and the written
 /// length is 0.
-pub fn making_no(sheet: &[u8], output_len: usize, workspace_len: usize) -> u8 {
-    let sheet = match Sheet::read(sheet) {
-        Ok(sheet) => sheet,
-        Err(number) => return number,
-    };
+pub fn make(sheet: &[u8], output_len: usize, workspace_len: usize) -> Result<Vec<u8>, u8> {
+    let sheet = Sheet::read(sheet)?;
     if output_len < 12 + 8 * sheet.points().len() {
-        return 21;
+        return Err(21);
     }
     if workspace_len < WORKSPACE_NUMBERS {
-        return 22;
+        return Err(22);
     }
-    if best_choice(&sheet).is_none() {
-        return 61;
-    }
-    0
+    let choice = best_choice(&sheet).ok_or(61)?;
+    Ok(plate_bytes(&sheet, choice))
+}
+
+/// The number of a making: 0 if a plate is made, else the number of the first no.
+pub fn making_no(sheet: &[u8], output_len: usize, workspace_len: usize) -> u8 {
+    make(sheet, output_len, workspace_len).err().unwrap_or(0)
 }
 
 /// Does a making or a load with this answer leave the whole workspace zero, every number lent? It
@@ -114,25 +114,26 @@ pub fn zeroes_workspace(number: u8) -> bool {
     matches!(number, 0 | 61)
 }
 
-/// What the printing program writes for these sheet bytes if it makes the plate of this choice. The
-/// program has output and workspace enough; a sheet without a valid choice is refused whatever the
-/// choice is. Every line ends with a newline.
-pub fn listing(sheet: &[u8], choice: Choice) -> String {
-    let sheet = match Sheet::read(sheet) {
-        Ok(sheet) => sheet,
-        Err(number) => return format!("refused {number}\n"),
-    };
-    // Where the choice is valid, no search is needed.
-    if !valid(&sheet, choice) && best_choice(&sheet).is_none() {
-        return "refused 61\n".to_string();
-    }
+/// What the printing program writes for these sheet bytes: the listing of the plate of the preferred
+/// best choice, or a line with the number of the first no. The program has output and workspace
+/// enough.
+pub fn printed(sheet: &[u8]) -> String {
+    let best = Sheet::read(sheet).and_then(|sheet| {
+        let choice = best_choice(&sheet).ok_or(61)?;
+        Ok(listing(&sheet, choice))
+    });
+    best.unwrap_or_else(|number| format!("refused {number}\n"))
+}
+
+/// The listing of the plate of a choice. Every line ends with a newline.
+pub fn listing(sheet: &Sheet, choice: Choice) -> String {
     let mut text = format!(
         "plate {} {} {}\n",
         sheet.points().len(),
-        inside_positions(&sheet, choice).len(),
-        margin_width(&sheet, choice)
+        inside_positions(sheet, choice).len(),
+        margin_width(sheet, choice)
     );
-    let columns = margin_columns(&sheet, choice);
+    let columns = margin_columns(sheet, choice);
     for (point, column) in sheet.points().iter().zip(columns) {
         match column {
             None => text.push_str(&format!("{} in\n", point.call)),

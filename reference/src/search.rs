@@ -1,18 +1,21 @@
-//! The best count and a best choice.
+//! The best count and the preferred best choice.
 //!
-//! Small sheets are solved by trying every choice. Larger ones are solved by an exact search over
-//! what pixels force: if point a in one state shares a pixel with point b in another state, then
-//! the one state of a forces the opposite state of b. A point whose label leaves the map can't be
-//! inside: its inside state forces its own outside state. The choice found is marked in full at
-//! the end, margin included.
+//! Small sheets are solved by trying every choice, and of the best ones the preferred one is kept.
+//! Larger ones are solved by an exact search over what pixels force: if point a in one state shares a
+//! pixel with point b in another state, then the one state of a forces the opposite state of b. A
+//! point whose label leaves the map can't be inside: its inside state forces its own outside state.
+//! The search answers which count is the best if some points keep given states. So the points can be
+//! gone through in sheet order: each is put inside if the best count is still reached with it inside
+//! and with all points before it as decided. The choice found is marked in full at the end, margin
+//! included.
 //!
 //! Only pixels from column 0 on are used for forcing. They depend on a point's state alone: an
 //! outside point's outer label has negative columns only, and its leader covers column 0 to the
 //! point's column whatever its margin column is. So two outside points of one row share column 0,
 //! and each of them outside forces the other inside. What is found that way is a necessary condition
-//! for a valid choice. So if no choice meets it, no choice is valid. And no valid choice has more
-//! points inside than the choice that the search finds; when the marking in full finds that choice
-//! valid, it is a best one.
+//! for a valid choice. So if no choice meets it, no choice is valid. No valid choice has more points
+//! inside than the choice that the search finds, and none with as many is preferred to it; when the
+//! marking in full finds that choice valid, it is the preferred best one.
 
 use std::collections::HashMap;
 
@@ -31,8 +34,8 @@ pub fn best_count(sheet: &Sheet) -> usize {
     best_choice(sheet).map_or(0, |choice| choice.0.count_ones() as usize)
 }
 
-/// A valid choice with the best count, or nothing if no choice is valid. It has no bits outside the
-/// sheet's positions.
+/// Of the valid choices with the best count the preferred one, or nothing if no choice is valid. It
+/// has no bits outside the sheet's positions.
 ///
 /// Panics if the search's choice isn't valid: it would then be no more than a bound.
 pub fn best_choice(sheet: &Sheet) -> Option<Choice> {
@@ -45,57 +48,89 @@ pub fn best_choice(sheet: &Sheet) -> Option<Choice> {
     Some(choice)
 }
 
-/// Tries every choice, from the greatest inside count down, and gives the first valid one, or
-/// nothing if none is valid. Choices with a clash on the map are passed over by the table; all
-/// others are marked in full.
+/// Is one choice preferred to another? The points are gone through in sheet order; at the first
+/// point where the two differ, the one with it inside is preferred (document 02 (d)).
+pub fn is_preferred(sheet: &Sheet, one: Choice, other: Choice) -> bool {
+    let mut positions = 0..sheet.points().len();
+    positions
+        .find(|&position| one.contains(position) != other.contains(position))
+        .is_some_and(|position| one.contains(position))
+}
+
+/// Tries every choice, from the greatest inside count down, and gives the preferred one of the first
+/// count that has a valid one, or nothing if none is valid.
 pub fn try_all(sheet: &Sheet) -> Option<Choice> {
     let table = Table::of(sheet);
-    let n = sheet.points().len();
-    for count in (0..=n).rev() {
-        let mut found = None;
-        each_choice(n, count, &mut |choice| {
-            if table.map_is_clear(choice.0) && valid(sheet, choice) {
-                found = Some(choice);
-            }
-            found.is_some()
-        });
-        if found.is_some() {
-            return found;
-        }
-    }
-    None
+    let mut counts = (0..=sheet.points().len()).rev();
+    counts.find_map(|count| try_all_of(sheet, &table, count))
 }
 
-/// Hands every choice of `count` positions below n to `stop`, until `stop` says yes.
-pub fn each_choice(n: usize, count: usize, stop: &mut dyn FnMut(Choice) -> bool) {
-    fn extend(
-        n: usize,
-        next: usize,
-        missing: usize,
-        bits: u32,
-        stop: &mut dyn FnMut(Choice) -> bool,
-    ) -> bool {
+/// Tries every choice of this inside count and gives the preferred valid one, or nothing if none is
+/// valid. Choices with a clash on the map are passed over by the table, and so are those that aren't
+/// preferred to the one found so far; all others are marked in full.
+fn try_all_of(sheet: &Sheet, table: &Table, count: usize) -> Option<Choice> {
+    let mut found = None;
+    each_choice(sheet.points().len(), count, &mut |choice| {
+        if table.map_is_clear(choice.0)
+            && found.is_none_or(|found| is_preferred(sheet, choice, found))
+            && valid(sheet, choice)
+        {
+            found = Some(choice);
+        }
+    });
+    found
+}
+
+/// Hands every choice of `count` positions below n to `visit`.
+pub fn each_choice(n: usize, count: usize, visit: &mut dyn FnMut(Choice)) {
+    fn extend(n: usize, next: usize, missing: usize, bits: u32, visit: &mut dyn FnMut(Choice)) {
         if missing == 0 {
-            return stop(Choice(bits));
+            return visit(Choice(bits));
         }
         // Enough positions have to be left for the missing ones.
-        (next..n)
-            .take_while(|position| n - position >= missing)
-            .any(|position| extend(n, position + 1, missing - 1, bits | 1 << position, stop))
+        for position in (next..n).take_while(|position| n - position >= missing) {
+            extend(n, position + 1, missing - 1, bits | 1 << position, visit);
+        }
     }
-    extend(n.min(32), 0, count, 0, stop);
+    extend(n.min(32), 0, count, 0, visit);
 }
 
-/// The exact search, over the map's pixels. It has no limit: it ends with a choice, or with nothing
-/// if every choice has a clash on the map.
+/// The exact search, over the map's pixels. It has no limit: it ends with the preferred one of the
+/// choices with the greatest inside count that have no clash on the map, or with nothing if every
+/// choice has one.
+///
+/// A point is put inside if the best count is still reached with it inside and with all points before
+/// it as decided, else outside. So every choice with the best count that is like this one up to a
+/// point, and unlike it there, has that point outside.
 pub fn search_best(sheet: &Sheet) -> Option<Choice> {
     let table = Table::of(sheet);
-    let (undecided, inside) = table.settle()?;
-    let mut search = Search {
-        table: &table,
-        known: HashMap::new(),
+    let mut search = Search::new(&table);
+    let mut kept = States::default();
+    let best = search.best_count(kept)?;
+    for position in 0..sheet.points().len() {
+        let inside = kept.with(States::of(position, INSIDE));
+        kept = match search.best_count(inside) == Some(best) {
+            true => inside,
+            false => kept.with(States::of(position, OUTSIDE)),
+        };
+    }
+    Some(Choice(kept.inside))
+}
+
+/// Are there several best choices, going by the map's pixels? Some point is then inside in one of them
+/// and outside in another.
+pub fn several_best(sheet: &Sheet) -> bool {
+    let table = Table::of(sheet);
+    let mut search = Search::new(&table);
+    let Some(best) = search.best_count(States::default()) else {
+        return false;
     };
-    Some(Choice(inside | search.best(undecided)))
+    (0..sheet.points().len()).any(|position| {
+        [OUTSIDE, INSIDE].into_iter().all(|state| {
+            let kept = States::of(position, state);
+            search.best_count(kept) == Some(best)
+        })
+    })
 }
 
 /// States of several points: the points that are inside and the points that are outside.
@@ -147,6 +182,8 @@ struct Table {
     direct: Vec<[States; 2]>,
     /// By position and state: all states forced.
     forced: Vec<[States; 2]>,
+    /// What is so in any case.
+    settled: States,
 }
 
 impl Table {
@@ -179,7 +216,18 @@ impl Table {
             }
         }
         let forced = follow(&direct);
-        Table { direct, forced }
+        let settled = settle(&forced);
+        Table {
+            direct,
+            forced,
+            settled,
+        }
+    }
+
+    /// All points of the sheet.
+    fn points(&self) -> u32 {
+        let all = (0..self.direct.len()).map(|position| 1 << position);
+        all.fold(0, |points, point| points | point)
     }
 
     /// Does the choice with these points inside, all others outside, have no clash on the map?
@@ -190,26 +238,28 @@ impl Table {
         })
     }
 
-    /// Decides the points of which one state is impossible because it forces its own opposite.
-    /// Gives the undecided points and the decided inside ones, or nothing if a point has no
-    /// possible state.
-    fn settle(&self) -> Option<(u32, u32)> {
-        let mut decided = States::default();
-        let mut all = 0;
-        for (position, forced) in self.forced.iter().enumerate() {
-            all |= 1 << position;
-            match (forced[OUTSIDE].agree(), forced[INSIDE].agree()) {
-                (true, true) => {}
-                (true, false) => decided = decided.with(forced[OUTSIDE]),
-                (false, true) => decided = decided.with(forced[INSIDE]),
-                (false, false) => return None,
-            }
-        }
-        if !decided.agree() {
-            return None;
-        }
-        Some((all & !decided.points(), decided.inside))
+    /// All that these states force, together with what is so in any case. If it doesn't agree, no
+    /// choice without a clash on the map keeps these states.
+    fn all_forced(&self, kept: States) -> States {
+        let inside = ones(kept.inside).map(|position| self.forced[position][INSIDE]);
+        let outside = ones(kept.outside).map(|position| self.forced[position][OUTSIDE]);
+        inside.chain(outside).fold(self.settled, States::with)
     }
+}
+
+/// The states of the points of which one state is impossible because it forces its own opposite, and
+/// all that these force. They don't agree if a point has no possible state.
+fn settle(forced: &[[States; 2]]) -> States {
+    let mut settled = States::default();
+    for [outside, inside] in forced {
+        if !inside.agree() {
+            settled = settled.with(*outside);
+        }
+        if !outside.agree() {
+            settled = settled.with(*inside);
+        }
+    }
+    settled
 }
 
 /// Follows direct forcing over any number of steps.
@@ -247,31 +297,49 @@ fn ones(bits: u32) -> impl Iterator<Item = usize> {
 /// The search over sets of undecided points.
 ///
 /// Decisions are only made together with all they force. So a point that is still undecided has
-/// no tie to a decided one that could be broken: whatever it forces on a decided point is already
-/// so, else that point would have forced it. How best to decide a set of undecided points then
+/// no link to a decided one that could be broken: whatever it forces on a decided point is already
+/// so, else that point would have forced it. How many of a set of undecided points can be inside then
 /// depends on the set alone, and each set is solved once.
 struct Search<'a> {
     table: &'a Table,
-    /// By set of undecided points: the inside points of a best way to decide them.
+    /// By set of undecided points: the most that can be inside.
     known: HashMap<u32, u32>,
 }
 
 impl Search<'_> {
-    /// The inside points of a best way to decide these points.
-    fn best(&mut self, undecided: u32) -> u32 {
-        // Parts without ties between them are decided on their own.
-        let mut inside = 0;
-        let mut rest = undecided;
-        while rest != 0 {
-            let part = self.tied_part(rest);
-            inside |= self.best_of_part(part);
-            rest &= !part;
+    fn new(table: &Table) -> Search<'_> {
+        Search {
+            table,
+            known: HashMap::new(),
         }
-        inside
     }
 
-    /// All points of the set that are tied, over any number of steps, to its first point.
-    fn tied_part(&self, set: u32) -> u32 {
+    /// The greatest inside count of the choices that keep these states and have no clash on the map,
+    /// or nothing if there is none.
+    fn best_count(&mut self, kept: States) -> Option<u32> {
+        let decided = self.table.all_forced(kept);
+        if !decided.agree() {
+            return None;
+        }
+        let undecided = self.table.points() & !decided.points();
+        Some(decided.inside.count_ones() + self.most(undecided))
+    }
+
+    /// The most of these undecided points that can be inside.
+    fn most(&mut self, undecided: u32) -> u32 {
+        // Parts without links between them are decided on their own.
+        let mut count = 0;
+        let mut rest = undecided;
+        while rest != 0 {
+            let part = self.linked_part(rest);
+            count += self.most_of_part(part);
+            rest &= !part;
+        }
+        count
+    }
+
+    /// All points of the set that are linked, over any number of steps, to its first point.
+    fn linked_part(&self, set: u32) -> u32 {
         let mut part = set & set.wrapping_neg();
         loop {
             let mut wider = part;
@@ -286,24 +354,22 @@ impl Search<'_> {
         }
     }
 
-    /// As `best`, for points that are all tied together.
-    fn best_of_part(&mut self, part: u32) -> u32 {
+    /// As `most`, for points that are all linked together.
+    fn most_of_part(&mut self, part: u32) -> u32 {
         let Some(position) = self.most_forcing(part) else {
-            return part;
+            return part.count_ones();
         };
-        if let Some(&inside) = self.known.get(&part) {
-            return inside;
+        if let Some(&count) = self.known.get(&part) {
+            return count;
         }
         let [outside, inside] = self.table.forced[position];
-        let with = (inside.inside & part) | self.best(part & !inside.points());
-        let without = (outside.inside & part) | self.best(part & !outside.points());
-        let best = if with.count_ones() >= without.count_ones() {
-            with
-        } else {
-            without
-        };
-        self.known.insert(part, best);
-        best
+        let [with, without] = [inside, outside].map(|states| {
+            let sure = (states.inside & part).count_ones();
+            sure + self.most(part & !states.points())
+        });
+        let count = with.max(without);
+        self.known.insert(part, count);
+        count
     }
 
     /// The point that, put inside, forces the most points of the set outside; of several the one

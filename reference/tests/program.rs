@@ -23,6 +23,15 @@ fn p1() -> Vec<u8> {
     sheet_bytes((20, 10), (4, 2), &[(17, 2, 3), (18, 4, 4), (19, 10, 7)])
 }
 
+/// Document 01's tie of two points, or the two exchanged.
+fn tie(exchanged: bool) -> Vec<u8> {
+    let mut points = [(17, 4, 3), (18, 3, 4)];
+    if exchanged {
+        points.reverse();
+    }
+    sheet_bytes((20, 12), (4, 2), &points)
+}
+
 /// A point with P1's map and label that can only be outside.
 fn overhanging() -> Vec<u8> {
     sheet_bytes((20, 10), (4, 2), &[(17, 18, 2)])
@@ -62,6 +71,9 @@ fn check_best_and_list() {
     assert_eq!(run("best", &[]), "refused 11\n");
     assert_eq!(run("list", &p1()), "plate 3 2 1\n17 out 0\n18 in\n19 in\n");
     assert_eq!(run("list", &p1()[..27]), "refused 16\n");
+    assert_eq!(run("best", &tie(false)), "1\n");
+    assert_eq!(run("list", &tie(false)), "plate 2 1 1\n17 in\n18 out 0\n");
+    assert_eq!(run("list", &tie(true)), "plate 2 1 1\n18 in\n17 out 0\n");
     assert_eq!(run("check", &overhanging()), "accepted\n");
     assert_eq!(run("best", &overhanging()), "0\n");
     assert_eq!(run("list", &overhanging()), "plate 1 0 1\n17 out 0\n");

@@ -12,8 +12,9 @@ use reference::random::{
 };
 use reference::search::{search_best, try_all};
 use reference::{
-    best_choice, best_count, check_sheet, first_clash, inside_positions, making_no, margin_columns,
-    plate_bytes, read_plate, run_script, valid, Choice, ClashKind, Desk, Sheet, WORKSPACE_NUMBERS,
+    best_choice, best_count, check_sheet, first_clash, inside_positions, is_preferred, making_no,
+    margin_columns, plate_bytes, read_plate, run_script, several_best, valid, Choice, ClashKind,
+    Desk, Sheet, WORKSPACE_NUMBERS,
 };
 
 /// The sheet as it is, or on a map with room for every label: one as often as the other.
@@ -36,6 +37,17 @@ fn small_dense(random: &mut Random, most_points: u16, side: u16, most_label: u16
         accepted(|| random_sheet(random, map, label, n))
     };
     some_with_room(random, sheet)
+}
+
+/// A small random sheet that often has several best choices: columns fall as rows rise, so that labels
+/// meet and leaders are seldom in their way, and there is room for every label.
+fn small_tied(random: &mut Random, most_points: u16) -> Sheet {
+    let n = random.between(2, most_points);
+    let map = (random.between(4, 4 * n), random.between(n, 2 * n));
+    let label = (random.between(2, 8), random.between(2, 4));
+    let noise = random.between(1, label.0);
+    let sheet = accepted(|| falling_sheet(random, map, label, n, noise));
+    Sheet::read(&with_room(&sheet)).unwrap()
 }
 
 /// A sheet of up to 32 points with sides and label sides up to these.
@@ -160,31 +172,54 @@ fn runs_agree_with_sets_of_pixels() {
     assert!(seen.iter().all(|&times| times > 200), "{seen:?}");
 }
 
-/// The inside count of a choice found, if one was. It has to be valid by sets of pixels.
-fn count_of(sheet: &Sheet, found: Option<Choice>) -> Option<usize> {
-    let choice = found?;
-    assert_eq!(clash_by_pixels(sheet, choice), None);
-    Some(choice.0.count_ones() as usize)
+/// A choice as one number: of two choices with as many points inside the preferred one has the greater
+/// number. The first point stands for the most, so the first difference decides.
+fn preference(choice: Choice) -> u32 {
+    choice.0.reverse_bits()
+}
+
+/// The choice with the most points inside, and of several the preferred one.
+fn preferred_of(choices: impl Iterator<Item = Choice>) -> Option<Choice> {
+    choices.max_by_key(|&choice| (choice.0.count_ones(), preference(choice)))
 }
 
 #[test]
-fn best_count_agrees_with_sets_of_pixels_over_all_choices() {
+fn the_preferred_one_of_two_choices_has_the_greater_number() {
+    let mut random = Random::new(15);
+    for _ in 0..20000 {
+        let sheet = small_dense(&mut random, 8, 14, 6);
+        let all = (1 << sheet.points().len()) - 1;
+        let [one, other] = [(); 2].map(|()| Choice(random.next_number() as u32 & all));
+        let greater = preference(one) > preference(other);
+        assert_eq!(is_preferred(&sheet, one, other), greater);
+    }
+}
+
+#[test]
+fn the_best_choice_agrees_with_sets_of_pixels_over_all_choices() {
     let mut random = Random::new(2);
     let mut none = 0;
-    for _ in 0..1000 {
-        let sheet = small_dense(&mut random, 6, 10, 5);
-        let n = sheet.points().len();
-        let best = (0..1 << n)
-            .map(Choice)
-            .filter(|&choice| clash_by_pixels(&sheet, choice).is_none())
-            .map(|choice| choice.0.count_ones() as usize)
-            .max();
-        assert_eq!(count_of(&sheet, best_choice(&sheet)), best);
-        assert_eq!(best_count(&sheet), best.unwrap_or(0));
+    let mut several = 0;
+    for round in 0..1500 {
+        let sheet = match round % 3 {
+            0 => small_tied(&mut random, 6),
+            _ => small_dense(&mut random, 6, 10, 5),
+        };
+        let valid = |choice: &Choice| clash_by_pixels(&sheet, *choice).is_none();
+        let choices = || (0..1 << sheet.points().len()).map(Choice).filter(valid);
+        let best = preferred_of(choices());
+        assert_eq!(best_choice(&sheet), best);
+        let count = best.map_or(0, |best| best.0.count_ones());
+        assert_eq!(best_count(&sheet), count as usize);
+        let as_many = choices().filter(|choice| choice.0.count_ones() == count);
+        let more_than_one = as_many.count() > 1;
+        assert_eq!(several_best(&sheet), more_than_one);
+        several += u32::from(more_than_one);
         none += u32::from(best.is_none());
     }
-    // At times there is no valid choice.
+    // At times there is no valid choice, and often there are several best ones.
     assert!(none > 20, "{none}");
+    assert!(several > 200, "{several}");
 }
 
 #[test]
@@ -276,31 +311,34 @@ fn random_sheets_often_share_rows_and_mostly_have_a_valid_choice() {
 }
 
 #[test]
-fn best_count_agrees_with_marking_every_choice() {
+fn the_best_choice_agrees_with_marking_every_choice() {
     let mut random = Random::new(3);
     for _ in 0..400 {
         let sheet = small_dense(&mut random, 10, 20, 6);
-        let n = sheet.points().len();
-        let best = (0..1 << n)
-            .map(Choice)
-            .filter(|&choice| valid(&sheet, choice))
-            .map(|choice| choice.0.count_ones() as usize)
-            .max();
-        assert_eq!(count_of(&sheet, best_choice(&sheet)), best);
-        assert_eq!(count_of(&sheet, search_best(&sheet)), best);
+        let choices = (0..1 << sheet.points().len()).map(Choice);
+        let best = preferred_of(choices.filter(|&choice| valid(&sheet, choice)));
+        assert_eq!(best_choice(&sheet), best);
+        assert_eq!(try_all(&sheet), best);
+        assert_eq!(search_best(&sheet), best);
     }
 }
 
 #[test]
 fn the_search_agrees_with_trying_every_choice() {
     let mut random = Random::new(4);
+    let mut several = 0;
     for round in 0..3000 {
         // Mostly small sheets, and some on which trying every choice takes longer.
         let most_points = if round % 20 == 0 { 17 } else { 12 };
-        let sheet = small_dense(&mut random, most_points, 30, 8);
-        let searched = count_of(&sheet, search_best(&sheet));
-        assert_eq!(searched, count_of(&sheet, try_all(&sheet)));
+        let sheet = match round % 2 {
+            0 => small_tied(&mut random, most_points),
+            _ => small_dense(&mut random, most_points, 30, 8),
+        };
+        assert_eq!(search_best(&sheet), try_all(&sheet));
+        several += u32::from(several_best(&sheet));
     }
+    // Many sheets have several best choices.
+    assert!(several > 800, "{several}");
 }
 
 /// Which labels leave the map and which labels and leaders share a pixel on it, from sets of pixels:
@@ -362,21 +400,21 @@ impl Conflicts {
     }
 }
 
-/// The greatest inside count of all valid choices, or nothing if none is valid: every one is tried.
-/// A choice that would be the best so far is marked in full, margin included.
-fn best_of_every_choice(sheet: &Sheet) -> Option<usize> {
-    let conflicts = Conflicts::of(sheet);
+/// Of the valid choices with the most points inside the one with the greatest number, or nothing if
+/// none is valid: every one is tried. A choice that would be the one so far is marked in full, margin
+/// included.
+fn best_by(sheet: &Sheet, conflicts: &Conflicts, number: fn(Choice) -> u32) -> Option<Choice> {
     let mut best = None;
-    for inside in 0..1u32 << sheet.points().len() {
-        let count = Some(inside.count_ones() as usize);
-        if count > best
-            && conflicts.none_among(inside)
-            && clash_by_pixels(sheet, Choice(inside)).is_none()
+    let mut found = None;
+    for choice in (0..1u32 << sheet.points().len()).map(Choice) {
+        let rank = Some((choice.0.count_ones(), number(choice)));
+        if rank > best && conflicts.none_among(choice.0) && clash_by_pixels(sheet, choice).is_none()
         {
-            best = count;
+            best = rank;
+            found = Some(choice);
         }
     }
-    best
+    found
 }
 
 /// A crowded sheet of n points.
@@ -399,30 +437,47 @@ fn the_search_agrees_with_every_choice_up_to_20_points() {
     let mut some_inside = 0;
     let mut some_overhang = 0;
     let mut some_in_a_shared_row = 0;
+    let mut several = 0;
+    let mut last_difference = 0;
     let mut none = 0;
     for n in 13..=20 {
         for _ in 0..150 {
             let sheet = crowded(&mut random, n);
             assert_eq!(sheet.points().len(), usize::from(n));
-            let searched = search_best(&sheet);
-            let count = count_of(&sheet, searched);
-            assert_eq!(count, best_of_every_choice(&sheet));
-            assert_eq!(best_choice(&sheet), searched);
+            let conflicts = Conflicts::of(&sheet);
+            let preferred = best_by(&sheet, &conflicts, preference);
+            assert_eq!(search_best(&sheet), preferred);
+            assert_eq!(best_choice(&sheet), preferred);
+            // Another best one is there if the one that is preferred last is another.
+            let last = best_by(&sheet, &conflicts, |choice| !preference(choice));
+            assert_eq!(several_best(&sheet), preferred != last);
+            several += u32::from(preferred != last);
+            // The last difference would decide for the greater number as it is.
+            let by_last_difference = best_by(&sheet, &conflicts, |choice| choice.0);
+            last_difference += u32::from(preferred != by_last_difference);
             let something_to_do =
-                count.is_some_and(|count| (2..usize::from(n) - 1).contains(&count));
+                preferred.is_some_and(|best| (2..u32::from(n) - 1).contains(&best.0.count_ones()));
             some_inside += u32::from(something_to_do);
-            let overhangs = Conflicts::of(&sheet).overhangs != 0;
+            let overhangs = conflicts.overhangs != 0;
             some_overhang += u32::from(something_to_do && overhangs);
             some_in_a_shared_row += u32::from(something_to_do && shares_a_row(&sheet));
-            none += u32::from(count.is_none());
+            none += u32::from(preferred.is_none());
         }
     }
     // Most of the sheets leave the search something to do, and many of these have labels that
-    // leave the map or points that share a row. Some have no valid choice.
+    // leave the map or points that share a row. Many have several best choices, and in many of these
+    // the last difference would decide otherwise. Some have no valid choice.
     assert!(some_inside > 600, "{some_inside}");
     assert!(some_overhang > 200, "{some_overhang}");
     assert!(some_in_a_shared_row > 100, "{some_in_a_shared_row}");
+    assert!(several > 400, "{several}");
+    assert!(last_difference > 400, "{last_difference}");
     assert!(none > 50, "{none}");
+}
+
+/// The choice with one point put inside and another put outside.
+fn exchanged(choice: Choice, inside: usize, outside: usize) -> Choice {
+    Choice(choice.0 & !(1 << outside) | 1 << inside)
 }
 
 #[test]
@@ -445,6 +500,12 @@ fn large_sheets_have_valid_best_choices_that_no_neighbour_beats() {
             for b in a..32 {
                 let more = Choice(best.0 | 1 << a | 1 << b);
                 assert!(more == best || !valid(&sheet, more));
+            }
+        }
+        // So does putting a point inside for a later one, which would be preferred.
+        for a in (0..32).filter(|&a| !best.contains(a)) {
+            for b in (a..32).filter(|&b| best.contains(b)) {
+                assert!(!valid(&sheet, exchanged(best, a, b)));
             }
         }
         let reading_bytes = plate_bytes(&sheet, best);

@@ -1,13 +1,13 @@
 //! The worked plates P1 to P10, the other examples and the plausible errors of document 01. Labels
 //! at the map's edge are worked out from document 02 (a), margin columns from document 02 (b), shared
-//! rows from document 02 (c).
+//! rows from document 02 (c), the preferred best choice from document 02 (d).
 
 use reference::random::sheet_bytes;
 use reference::search::{each_choice, search_best, try_all};
 use reference::{
-    best_choice, best_count, check_sheet, first_clash, listing, making_no, margin_columns,
-    margin_width, plate_bytes, read_plate, valid, Choice, ClashKind, Desk, Marked, Sheet, Verdict,
-    WORKSPACE_NUMBERS,
+    best_choice, best_count, check_sheet, first_clash, is_preferred, listing, make, making_no,
+    margin_columns, margin_width, plate_bytes, printed, read_plate, several_best, valid, Choice,
+    ClashKind, Desk, Marked, Sheet, Verdict, WORKSPACE_NUMBERS,
 };
 
 /// The bytes of a sheet; call numbers are 17, 18 and so on.
@@ -38,34 +38,41 @@ fn p1_like_with_room(points: &[(u16, u16)]) -> Sheet {
     Sheet::read(&bytes_on((24, 14), (4, 2), points)).unwrap()
 }
 
-/// All valid choices of the best count; none if no choice is valid. Both ways of finding one have to
-/// agree with them.
+/// All valid choices of the best count; none if no choice is valid. Both ways of finding the
+/// preferred one have to agree with them.
 fn best_choices(sheet: &Sheet) -> Vec<Choice> {
     let n = sheet.points().len();
-    for count in (0..=n).rev() {
-        let mut found = Vec::new();
-        each_choice(n, count, &mut |choice| {
-            if valid(sheet, choice) {
-                found.push(choice);
-            }
-            false
-        });
-        if !found.is_empty() {
-            assert_eq!(best_count(sheet), count);
-            assert!(found.contains(&the_best(sheet)));
-            assert!(found.contains(&try_all(sheet).unwrap()));
-            assert!(found.contains(&search_best(sheet).unwrap()));
-            return found;
-        }
-    }
-    assert_eq!(best_count(sheet), 0);
-    assert_eq!(best_choice(sheet), None);
-    assert_eq!(try_all(sheet), None);
-    assert_eq!(search_best(sheet), None);
-    Vec::new()
+    let best = (0..=n)
+        .rev()
+        .map(|count| valid_choices(sheet, count))
+        .find(|found| !found.is_empty())
+        .unwrap_or_default();
+    let preferred = best.iter().copied().find(|&one| {
+        let mut others = best.iter().filter(|&&other| other != one);
+        others.all(|&other| is_preferred(sheet, one, other))
+    });
+    assert_eq!(preferred.is_some(), !best.is_empty());
+    assert_eq!(best_choice(sheet), preferred);
+    assert_eq!(try_all(sheet), preferred);
+    assert_eq!(search_best(sheet), preferred);
+    let count = preferred.map_or(0, |choice| choice.0.count_ones() as usize);
+    assert_eq!(best_count(sheet), count);
+    assert_eq!(several_best(sheet), best.len() > 1);
+    best
 }
 
-/// The best choice of a sheet that has a valid one.
+/// All valid choices of this inside count.
+fn valid_choices(sheet: &Sheet, count: usize) -> Vec<Choice> {
+    let mut found = Vec::new();
+    each_choice(sheet.points().len(), count, &mut |choice| {
+        if valid(sheet, choice) {
+            found.push(choice);
+        }
+    });
+    found
+}
+
+/// The preferred best choice of a sheet that has a valid one.
 fn the_best(sheet: &Sheet) -> Choice {
     best_choice(sheet).unwrap()
 }
@@ -87,15 +94,12 @@ fn p1_bytes_plate_and_listing() {
     let reading = read_plate(&plate);
     assert_eq!((reading.number, reading.inside), (0, &[1, 2][..]));
     assert_eq!(reading.inside.as_ptr(), plate[29..].as_ptr());
-    assert_eq!(
-        listing(&P1, the_best(&sheet)),
-        "plate 3 2 1\n17 out 0\n18 in\n19 in\n"
-    );
+    assert_eq!(printed(&P1), "plate 3 2 1\n17 out 0\n18 in\n19 in\n");
 }
 
 #[test]
 fn a_refused_listing() {
-    assert_eq!(listing(&P1[..27], Choice::default()), "refused 16\n");
+    assert_eq!(printed(&P1[..27]), "refused 16\n");
 }
 
 #[test]
@@ -294,12 +298,12 @@ fn margin_columns_used_by_a_listing() {
     let sheet = Sheet::read(&bytes).unwrap();
     assert_eq!(best_choices(&sheet), [Choice::of(&[0, 1])]);
     assert_eq!(
-        listing(&bytes, the_best(&sheet)),
+        printed(&bytes),
         "plate 5 2 2\n1 in\n2 in\n3 out 0\n4 out 1\n5 out 0\n"
     );
     // Nothing inside: rows 6, 5, 4, 2 and 0, each at most 3 below the one above.
     assert_eq!(
-        listing(&bytes, Choice::default()),
+        listing(&sheet, Choice::default()),
         "plate 5 0 5\n1 out 3\n2 out 0\n3 out 1\n4 out 2\n5 out 4\n"
     );
 }
@@ -310,7 +314,7 @@ fn p9_listing(third_row: u16) -> String {
     let bytes = bytes_of((4, 3), &[(18, 10), (18, 9), (18, third_row)]);
     let sheet = Sheet::read(&bytes).unwrap();
     assert_eq!(best_choices(&sheet), [Choice::default()]);
-    listing(&bytes, the_best(&sheet))
+    printed(&bytes)
 }
 
 #[test]
@@ -332,13 +336,217 @@ fn p10_no_points() {
     let reading = read_plate(&plate);
     assert_eq!((reading.number, reading.inside), (0, &[][..]));
     assert_eq!(reading.inside.as_ptr(), plate[11..].as_ptr());
-    assert_eq!(listing(&bytes, Choice::default()), "plate 0 0 0\n");
+    assert_eq!(printed(&bytes), "plate 0 0 0\n");
+}
+
+/// Is one list's choice preferred to another's on a sheet of four points, and the other way round?
+fn preferred_each_way(one: &[u8], other: &[u8]) -> [bool; 2] {
+    let sheet = sheet_of((4, 2), &[(0, 0), (0, 1), (0, 2), (0, 3)]);
+    let (one, other) = (Choice::of(one), Choice::of(other));
+    [
+        is_preferred(&sheet, one, other),
+        is_preferred(&sheet, other, one),
+    ]
 }
 
 #[test]
-fn two_best_choices() {
-    let sheet = sheet_of((4, 2), &[(4, 3), (3, 4)]);
-    assert_eq!(best_choices(&sheet), [Choice::of(&[0]), Choice::of(&[1])]);
+fn the_first_point_where_two_choices_differ_decides() {
+    let the_first = [true, false];
+    assert_eq!(preferred_each_way(&[0], &[1]), the_first);
+    assert_eq!(preferred_each_way(&[2], &[3]), the_first);
+    assert_eq!(preferred_each_way(&[0, 1], &[0, 2]), the_first);
+    assert_eq!(preferred_each_way(&[0, 1], &[2, 3]), the_first);
+    assert_eq!(preferred_each_way(&[0, 3], &[1, 2]), the_first);
+    assert_eq!(preferred_each_way(&[0, 2], &[1, 3]), the_first);
+    assert_eq!(preferred_each_way(&[0, 1, 3], &[0, 2, 3]), the_first);
+    // Only that point decides, not how many are inside.
+    assert_eq!(preferred_each_way(&[0], &[1, 2, 3]), the_first);
+    assert_eq!(preferred_each_way(&[1, 3], &[1]), the_first);
+    assert_eq!(preferred_each_way(&[3], &[]), the_first);
+    // Choices that don't differ at any point of the sheet.
+    assert_eq!(preferred_each_way(&[1, 2], &[1, 2]), [false, false]);
+    assert_eq!(preferred_each_way(&[1, 2], &[1, 2, 4]), [false, false]);
+}
+
+/// The preferred best choice of a sheet has these positions inside, and what the making adds to the
+/// sheet's bytes and what is printed is this.
+fn preferred(bytes: &[u8], inside: &[u8], added: &[u8], text: &str) {
+    let sheet = Sheet::read(bytes).unwrap();
+    assert_eq!(the_best(&sheet), Choice::of(inside));
+    let plate = [bytes, added].concat();
+    let output = 12 + 8 * sheet.points().len();
+    assert_eq!(make(bytes, output, WORKSPACE_NUMBERS), Ok(plate));
+    assert_eq!(printed(bytes), text);
+}
+
+#[test]
+fn the_two_point_tie() {
+    // The labels are in columns 4 to 7 of rows 3 and 4 and in columns 3 to 6 of rows 4 and 5. Either
+    // leader is free of the other's label.
+    let bytes = bytes_of((4, 2), &[(4, 3), (3, 4)]);
+    let one_each = [Choice::of(&[0]), Choice::of(&[1])];
+    assert_eq!(best_choices(&Sheet::read(&bytes).unwrap()), one_each);
+    let text = "plate 2 1 1\n17 in\n18 out 0\n";
+    preferred(&bytes, &[0], &[1, 0, 1, 1, 0], text);
+    // The two exchanged: the first of the sheet is the other one.
+    let bytes = bytes_of((4, 2), &[(3, 4), (4, 3)]);
+    assert_eq!(best_choices(&Sheet::read(&bytes).unwrap()), one_each);
+    preferred(&bytes, &[0], &[1, 0, 1, 1, 0], text);
+}
+
+#[test]
+fn four_best_choices() {
+    // A stair of six from (12,1) up to (2,6). The labels of two neighbours meet, and no others. A
+    // leader is in the upper row of the label below it and ends two columns left of that label. Call
+    // the six A to F from the lowest up. Three without neighbours among them are ACE, ACF, ADF and BDF,
+    // and there are no four. In sheet order the points are B, E, A, C, F and D.
+    let points = [(10, 2), (4, 5), (12, 1), (8, 3), (2, 6), (6, 4)];
+    let bytes = bytes_of((4, 2), &points);
+    assert_eq!(
+        best_choices(&Sheet::read(&bytes).unwrap()),
+        [
+            Choice::of(&[0, 4, 5]),
+            Choice::of(&[1, 2, 3]),
+            Choice::of(&[2, 3, 4]),
+            Choice::of(&[2, 4, 5])
+        ]
+    );
+    // Only BDF has the first point, B, inside. E beside B would be valid, but it isn't best. Outside
+    // are E, C and A in rows 5, 3 and 1, each 2 below the one before.
+    preferred(
+        &bytes,
+        &[0, 4, 5],
+        &[3, 0, 4, 5, 3, 1, 0, 3, 1, 2, 2],
+        "plate 6 3 3\n17 in\n18 out 0\n19 out 2\n20 out 1\n21 in\n22 in\n",
+    );
+    // In the order E, B, F, D, A and C only ACE has the first point inside. Outside are F, D and B in
+    // rows 6, 4 and 2.
+    let points = [(4, 5), (10, 2), (2, 6), (6, 4), (12, 1), (8, 3)];
+    preferred(
+        &bytes_of((4, 2), &points),
+        &[0, 4, 5],
+        &[3, 0, 4, 5, 3, 2, 0, 3, 1, 1, 2],
+        "plate 6 3 3\n17 in\n18 out 2\n19 out 0\n20 out 1\n21 in\n22 in\n",
+    );
+}
+
+/// Four points with label 4 by 3. P at (3,4) has its label in columns 3 to 6 of rows 4 to 6, Q at
+/// (4,2) in columns 4 to 7 of rows 2 to 4, R at (10,5) in columns 10 to 13 of rows 5 to 7, S at (12,3)
+/// in columns 12 to 15 of rows 3 to 5. So P's and Q's meet in row 4, and R's and S's in row 5. R's
+/// leader, in row 5, runs through P's label alone, and S's, in row 3, through Q's alone. The leaders
+/// of P and Q end left of every label in their rows. So two are inside at most: P and R, or Q and S.
+const P: (u16, u16) = (3, 4);
+const Q: (u16, u16) = (4, 2);
+const R: (u16, u16) = (10, 5);
+const S: (u16, u16) = (12, 3);
+
+#[test]
+fn the_first_difference_decides_and_not_the_last() {
+    // P and R are 0 and 2. Their last difference from Q and S is 3, which is S. Outside are S and Q,
+    // in rows 3 and 2.
+    let bytes = bytes_of((4, 3), &[P, Q, R, S]);
+    assert_eq!(
+        best_choices(&Sheet::read(&bytes).unwrap()),
+        [Choice::of(&[0, 2]), Choice::of(&[1, 3])]
+    );
+    preferred(
+        &bytes,
+        &[0, 2],
+        &[2, 0, 2, 2, 3, 0, 1, 1],
+        "plate 4 2 2\n17 in\n18 out 1\n19 in\n20 out 0\n",
+    );
+    // Q and S are 0 and 2. Outside are R and P, in rows 5 and 4.
+    let bytes = bytes_of((4, 3), &[Q, P, S, R]);
+    preferred(
+        &bytes,
+        &[0, 2],
+        &[2, 0, 2, 2, 3, 0, 1, 1],
+        "plate 4 2 2\n17 in\n18 out 1\n19 in\n20 out 0\n",
+    );
+    // P and R are 0 and 3, the first and the last difference.
+    let bytes = bytes_of((4, 3), &[P, Q, S, R]);
+    assert_eq!(
+        best_choices(&Sheet::read(&bytes).unwrap()),
+        [Choice::of(&[0, 3]), Choice::of(&[1, 2])]
+    );
+    preferred(
+        &bytes,
+        &[0, 3],
+        &[2, 0, 3, 2, 2, 0, 1, 1],
+        "plate 4 2 2\n17 in\n18 out 1\n19 out 0\n20 in\n",
+    );
+}
+
+#[test]
+fn a_first_point_that_no_best_choice_has_inside() {
+    // The labels of 2 and 4 each meet that of 0, so 0 inside costs one. 1 and 3 are a tie of two
+    // further up. With 0 outside its leader, in row 2, ends in column 10, and 2's label starts in
+    // column 12. Outside are 3 and 0, in rows 9 and 2, or 8 and 2.
+    let text = "plate 5 3 1\n17 out 0\n18 in\n19 in\n20 out 0\n21 in\n";
+    for [first, second] in [[(4, 8), (3, 9)], [(3, 9), (4, 8)]] {
+        let bytes = bytes_of((4, 2), &[(10, 2), first, (12, 1), second, (8, 3)]);
+        let sheet = Sheet::read(&bytes).unwrap();
+        assert!(valid(&sheet, Choice::of(&[0, 1])));
+        assert_eq!(
+            best_choices(&sheet),
+            [Choice::of(&[1, 2, 4]), Choice::of(&[2, 3, 4])]
+        );
+        let added = [3, 1, 2, 4, 2, 3, 0, 0, 0];
+        preferred(&bytes, &[1, 2, 4], &added, text);
+    }
+}
+
+/// A stair of 32 points with label 4 by 2, in rows 0 to 31: two columns left for each row up. The
+/// labels of two neighbours meet, and nothing else does, so half of the points can be inside.
+fn stair() -> Vec<(u16, u16)> {
+    (0..32).map(|row| (2 * (31 - row), row)).collect()
+}
+
+/// The preferred best choice of 32 points with label 4 by 2 on a large map.
+fn preferred_of_32(points: &[(u16, u16)]) -> Choice {
+    let sheet = Sheet::read(&bytes_on((80, 80), (4, 2), points)).unwrap();
+    assert_eq!(best_count(&sheet), 16);
+    assert!(several_best(&sheet));
+    the_best(&sheet)
+}
+
+#[test]
+fn the_preferred_choice_of_a_stair_of_32() {
+    // From the lowest up: the first, and every second one from there on.
+    let mut points = stair();
+    assert_eq!(preferred_of_32(&points), Choice(0x5555_5555));
+    // From the highest down.
+    points.reverse();
+    assert_eq!(preferred_of_32(&points), Choice(0x5555_5555));
+    // The lowest two exchanged: the second lowest, then the fourth lowest and every second one up.
+    // That is positions 0, 3, 5 and so on to 31.
+    let mut points = stair();
+    points.swap(0, 1);
+    assert_eq!(preferred_of_32(&points), Choice(0xaaaa_aaa9));
+    // The highest one first: it is inside, and the one below it outside. Of the other 30, from the
+    // lowest up, the first and every second one. That is positions 1, 3 and so on to 29.
+    let mut points = stair();
+    points.rotate_right(1);
+    assert_eq!(preferred_of_32(&points), Choice(0x2aaa_aaab));
+}
+
+#[test]
+fn the_preferred_choice_of_sixteen_ties() {
+    // Document 01's tie, every four rows. Of every second one the upper point comes first.
+    let lower = |tie: u16| (4, 4 * tie);
+    let upper = |tie: u16| (3, 4 * tie + 1);
+    let both = |tie: u16| match tie % 2 {
+        0 => [lower(tie), upper(tie)],
+        _ => [upper(tie), lower(tie)],
+    };
+    // Tie by tie.
+    let points: Vec<_> = (0..16).flat_map(both).collect();
+    assert_eq!(preferred_of_32(&points), Choice(0x5555_5555));
+    // One of each tie, and then the others from the last tie down.
+    let firsts = (0..16).map(|tie| both(tie)[0]);
+    let others = (0..16).rev().map(|tie| both(tie)[1]);
+    let points: Vec<_> = firsts.chain(others).collect();
+    assert_eq!(preferred_of_32(&points), Choice(0x0000_ffff));
 }
 
 #[test]
@@ -430,7 +638,7 @@ fn an_overhanging_point_can_only_be_outside() {
     let plate = plate_bytes(&sheet, the_best(&sheet));
     assert_eq!(plate, [&bytes[..], &[0, 1, 0, 0]].concat());
     assert_eq!(read_plate(&plate).number, 0);
-    assert_eq!(listing(&bytes, the_best(&sheet)), "plate 1 0 1\n17 out 0\n");
+    assert_eq!(printed(&bytes), "plate 1 0 1\n17 out 0\n");
     // Its plate with the point inside.
     let overhanging = [&bytes[..], &[1, 0, 0]].concat();
     assert_eq!(plate_bytes(&sheet, Choice::of(&[0])), overhanging);
@@ -810,7 +1018,7 @@ fn the_best_leaves_one_outside_in_each_shared_row() {
     let reading = read_plate(&plate);
     assert_eq!((reading.number, reading.inside), (0, &[1, 2][..]));
     assert_eq!(
-        listing(&bytes, the_best(&sheet)),
+        printed(&bytes),
         "plate 4 2 1\n17 out 0\n18 in\n19 in\n20 out 0\n"
     );
     // Row 4 is 2 below row 6, so its left one takes the next margin column.
@@ -818,7 +1026,7 @@ fn the_best_leaves_one_outside_in_each_shared_row() {
     let sheet = Sheet::read(&bytes).unwrap();
     assert_eq!(best_choices(&sheet), [Choice::of(&[1, 2])]);
     assert_eq!(
-        listing(&bytes, the_best(&sheet)),
+        printed(&bytes),
         "plate 4 2 2\n17 out 1\n18 in\n19 in\n20 out 0\n"
     );
 }
@@ -854,9 +1062,7 @@ fn has_a_valid_choice(points: &[(u16, u16)]) -> bool {
     let output = 12 + 8 * points.len();
     assert_eq!(making_no(&bytes, output, WORKSPACE_NUMBERS), number);
     assert_eq!(Desk::fresh().load(&bytes, WORKSPACE_NUMBERS), number);
-    if !found {
-        assert_eq!(listing(&bytes, Choice::default()), "refused 61\n");
-    }
+    assert_eq!(printed(&bytes) == "refused 61\n", !found);
     found
 }
 
@@ -920,9 +1126,9 @@ fn a_row_without_a_valid_choice_in_a_larger_sheet() {
 #[test]
 fn a_listing_with_two_outside_in_one_row() {
     // The choice isn't valid, and its columns are the rule's.
-    let bytes = bytes_of((4, 2), &[(10, 3), (2, 3), (4, 9)]);
+    let sheet = sheet_of((4, 2), &[(10, 3), (2, 3), (4, 9)]);
     assert_eq!(
-        listing(&bytes, Choice::of(&[2])),
+        listing(&sheet, Choice::of(&[2])),
         "plate 3 1 2\n17 out 1\n18 out 0\n19 in\n"
     );
 }
