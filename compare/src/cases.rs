@@ -1,13 +1,14 @@
 //! Document 01's worked examples that aren't marked (P): the tie, the desk on P1, and the sheet of
 //! each plausible error; a sheet whose last outside point isn't in the greatest margin column;
-//! labels at the map's edges, by document 02 (a); the margin columns of document 02 (b); and shared
-//! rows, by document 02 (c). All that is expected is written by hand from the documents.
+//! labels at the map's edges, by document 02 (a); the margin columns of document 02 (b); shared rows,
+//! by document 02 (c); and several best choices, by document 02 (d). All that is expected is written by
+//! hand from the documents.
 
 use crate::lent::Content;
 use crate::report::Report;
 use crate::scripts::Calls;
-use crate::side_by_side::{check, listing, making, must, printing, reading, same, session};
-use crate::side_by_side::{Buffers, Compared, Desks};
+use crate::side_by_side::{check, listing, making, must, printing, reading, same, same_plate};
+use crate::side_by_side::{session, Buffers, Compared, Desks};
 use reference::random::sheet_bytes;
 use reference::script::{mark_line, LOAD, MARK};
 
@@ -17,28 +18,30 @@ pub struct Case {
     pub label: (u16, u16),
     /// Columns and rows; the call numbers are 17, 18 and so on.
     pub points: &'static [(u16, u16)],
-    /// The best count, if some choice is valid.
-    pub best: Option<usize>,
-    /// What comes after the sheet's bytes in a plate, and the number of its reading.
+    /// What comes after the sheet's bytes in the plate made, if some choice is valid.
+    pub made: Option<&'static [u8]>,
+    /// What comes after the sheet's bytes in other plates, and the number of the reading.
     pub plates: &'static [(&'static [u8], u8)],
     /// Lists for a fresh desk with the sheet loaded, in this order, and the answers.
     pub lists: &'static [(&'static [u8], &'static str)],
-    /// What print_plate writes, if it is fixed: the listing of the best plate, if there is just one
-    /// best choice, or a refusal.
-    pub listing: Option<&'static str>,
+    /// What print_plate writes: the listing of the plate made, or a refusal.
+    pub listing: &'static str,
 }
 
 /// In the lower wall's case the label of point 0 reaches up over the row of point 1, right of it,
-/// to where the label of point 2 would stand; points 0 and 2 don't touch point 1's leader.
-pub const CASES: [Case; 20] = [
+/// to where the label of point 2 would stand; points 0 and 2 don't touch point 1's leader. Any one of
+/// the three alone is best, and 0 is preferred inside.
+pub const CASES: [Case; 24] = [
+    // The labels meet: columns 4 to 7 of rows 3 and 4, columns 3 to 6 of rows 4 and 5. The leader of 0,
+    // in row 3, is under the label of 1, and that of 1 ends in column 3, left of the label of 0. So
+    // either alone is best, and 0 is preferred inside.
     Case {
         name: "the tie (4,3), (3,4)",
         map: (20, 12),
         label: (4, 2),
         points: &[(4, 3), (3, 4)],
-        best: Some(1),
+        made: Some(&[1, 0, 1, 1, 0]),
         plates: &[
-            (&[1, 0, 1, 1, 0], 0),
             (&[1, 1, 1, 0, 0], 0),
             (&[0, 2, 1, 0, 0, 1], 0),
             (&[2, 0, 1, 0], 44),
@@ -49,31 +52,124 @@ pub const CASES: [Case; 20] = [
             (&[2, 0, 1], "3 clash 0 1 labels"),
             (&[0], "4 valid 0 1"),
         ],
-        listing: None,
+        listing: "plate 2 1 1\n17 in\n18 out 0\n",
+    },
+    // The same two points, the upper one first: it is preferred inside.
+    Case {
+        name: "the tie exchanged",
+        map: (20, 12),
+        label: (4, 2),
+        points: &[(3, 4), (4, 3)],
+        made: Some(&[1, 0, 1, 1, 0]),
+        plates: &[(&[1, 1, 1, 0, 0], 0), (&[0, 2, 0, 0, 1, 1], 0)],
+        lists: &[
+            (&[1, 1], "1 valid 1 0"),
+            (&[1, 0], "2 valid 1 0"),
+            (&[2, 0, 1], "3 clash 0 1 labels"),
+        ],
+        listing: "plate 2 1 1\n17 in\n18 out 0\n",
+    },
+    // A stair from (12,1) up to (2,6). The labels of two neighbours meet, and no others; a leader is in
+    // the upper row of the label below it and ends two columns left of that label. Call the points A to
+    // F from the lowest up. Three without neighbours among them are ACE, ACF, ADF and BDF, and there are
+    // no four. The sheet has them as E, B, F, D, A, C, and only ACE has E inside: 0, 4 and 5. With 0 and
+    // 1, E and B, no third can be inside. Outside are F, D and B in rows 6, 4 and 2, each 2 below the
+    // one before.
+    Case {
+        name: "four best choices",
+        map: (20, 12),
+        label: (4, 2),
+        points: &[(4, 5), (10, 2), (2, 6), (6, 4), (12, 1), (8, 3)],
+        made: Some(&[3, 0, 4, 5, 3, 2, 0, 3, 1, 1, 2]),
+        plates: &[
+            // ACF, with E, D and B outside in rows 5, 4 and 2.
+            (&[3, 2, 4, 5, 3, 0, 0, 3, 1, 1, 2], 0),
+            // ADF, with E, C and B outside in rows 5, 3 and 2.
+            (&[3, 2, 3, 4, 3, 0, 0, 5, 1, 1, 2], 0),
+            // BDF, with E, C and A outside in rows 5, 3 and 1.
+            (&[3, 1, 2, 3, 3, 0, 0, 5, 1, 4, 2], 0),
+        ],
+        lists: &[
+            (&[3, 0, 4, 5], "1 valid 3 0"),
+            (&[3, 2, 4, 5], "2 valid 3 0"),
+            (&[3, 2, 3, 4], "3 valid 3 0"),
+            (&[3, 1, 2, 3], "4 valid 3 0"),
+            (&[2, 0, 1], "5 valid 2 1"),
+            (&[3, 0, 1, 4], "6 clash 1 4 labels"),
+            (&[4, 0, 3, 4, 5], "7 clash 0 3 labels"),
+        ],
+        listing: "plate 6 3 3\n17 in\n18 out 2\n19 out 0\n20 out 1\n21 in\n22 in\n",
+    },
+    // The labels: 0 in columns 4 to 7 of rows 2 to 4, 1 in columns 3 to 6 of rows 4 to 6, 2 in columns 12
+    // to 15 of rows 3 to 5, 3 in columns 10 to 13 of rows 5 to 7. Those of 0 and 1 meet, and those of 2
+    // and 3. The leader of 2, in row 3, runs through the label of 0, and that of 3, in row 5, through
+    // that of 1; no other leader meets a label. So two are inside at most: 0 and 2, or 1 and 3. The first
+    // difference is at 0, which is preferred inside; the last is at 3, which is inside in the other.
+    // Outside are 3 and 1, in rows 5 and 4.
+    Case {
+        name: "a first difference and a last one",
+        map: (20, 12),
+        label: (4, 3),
+        points: &[(4, 2), (3, 4), (12, 3), (10, 5)],
+        made: Some(&[2, 0, 2, 2, 3, 0, 1, 1]),
+        plates: &[
+            (&[2, 1, 3, 2, 2, 0, 0, 1], 0),
+            (&[2, 0, 3, 2, 1, 0, 2, 1], 44),
+        ],
+        lists: &[
+            (&[2, 1, 3], "1 valid 2 0"),
+            (&[2, 0, 2], "2 valid 2 0"),
+            (&[2, 0, 3], "3 clash 0 2 leader"),
+            (&[2, 1, 2], "4 clash 1 3 leader"),
+            (&[2, 2, 3], "5 clash 2 3 labels"),
+            (&[1, 3], "6 valid 1 1"),
+        ],
+        listing: "plate 4 2 2\n17 in\n18 out 1\n19 in\n20 out 0\n",
+    },
+    // The labels of 2 and 4 each meet that of 0, so that 0 inside costs one. With 0 outside its leader,
+    // in row 2, ends in column 10, and 2's label starts in column 12. 1 and 3 are a tie of two further
+    // up, and of these 1 comes first. Outside are 3 and 0, in rows 9 and 2.
+    Case {
+        name: "a first point that no best choice has inside",
+        map: (20, 12),
+        label: (4, 2),
+        points: &[(10, 2), (4, 8), (12, 1), (3, 9), (8, 3)],
+        made: Some(&[3, 1, 2, 4, 2, 3, 0, 0, 0]),
+        plates: &[
+            (&[3, 2, 3, 4, 2, 1, 0, 0, 0], 0),
+            (&[2, 0, 1, 3, 3, 0, 4, 0, 2, 1], 0),
+        ],
+        lists: &[
+            (&[3, 2, 3, 4], "1 valid 3 0"),
+            (&[3, 1, 2, 4], "2 valid 3 0"),
+            (&[2, 0, 1], "3 valid 2 1"),
+            (&[3, 0, 1, 2], "4 clash 0 2 labels"),
+        ],
+        listing: "plate 5 3 1\n17 out 0\n18 in\n19 in\n20 out 0\n21 in\n",
     },
     Case {
         name: "the desk on P1",
         map: (20, 10),
         label: (4, 2),
         points: &[(2, 3), (4, 4), (10, 7)],
-        best: Some(2),
-        plates: &[(&[2, 1, 2, 1, 0, 0], 0)],
+        made: Some(&[2, 1, 2, 1, 0, 0]),
+        plates: &[],
         lists: &[
             (&[2, 1, 2], "1 valid 2 0"),
             (&[1, 0], "2 clash 0 1 leader"),
             (&[0], "3 valid 0 2"),
         ],
-        listing: Some("plate 3 2 1\n17 out 0\n18 in\n19 in\n"),
+        listing: "plate 3 2 1\n17 out 0\n18 in\n19 in\n",
     },
     Case {
         name: "left to right (P2)",
         map: (20, 12),
         label: (4, 3),
         points: &[(0, 5), (6, 6), (8, 7)],
-        best: Some(1),
-        plates: &[(&[1, 2, 2, 1, 0, 0, 1], 0), (&[1, 0, 2, 2, 0, 1, 1], 44)],
+        made: Some(&[1, 2, 2, 1, 0, 0, 1]),
+        plates: &[(&[1, 0, 2, 2, 0, 1, 1], 44)],
         lists: &[(&[1, 0], "1 clash 0 1 leader"), (&[1, 2], "2 valid 1 0")],
-        listing: Some("plate 3 1 2\n17 out 1\n18 out 0\n19 in\n"),
+        listing: "plate 3 1 2\n17 out 1\n18 out 0\n19 in\n",
     },
     // Point 0's label would end above the map; its leader bars 1's label, and 1's leader bars 2's.
     Case {
@@ -81,13 +177,10 @@ pub const CASES: [Case; 20] = [
         map: (20, 12),
         label: (4, 3),
         points: &[(1, 10), (1, 9), (1, 7)],
-        best: Some(0),
-        plates: &[
-            (&[0, 3, 0, 0, 1, 1, 2, 2], 0),
-            (&[0, 3, 0, 0, 1, 1, 2, 0], 43),
-        ],
+        made: Some(&[0, 3, 0, 0, 1, 1, 2, 2]),
+        plates: &[(&[0, 3, 0, 0, 1, 1, 2, 0], 43)],
         lists: &[(&[0], "1 valid 0 0")],
-        listing: Some("plate 3 0 3\n17 out 0\n18 out 1\n19 out 2\n"),
+        listing: "plate 3 0 3\n17 out 0\n18 out 1\n19 out 2\n",
     },
     // Each label would take columns 18 to 21; the map's last one is 19. The third's row is 3 below
     // the second's.
@@ -96,14 +189,13 @@ pub const CASES: [Case; 20] = [
         map: (20, 12),
         label: (4, 3),
         points: &[(18, 10), (18, 9), (18, 6)],
-        best: Some(0),
+        made: Some(&[0, 3, 0, 0, 1, 1, 2, 2]),
         plates: &[
-            (&[0, 3, 0, 0, 1, 1, 2, 2], 0),
             (&[0, 3, 0, 0, 1, 1, 2, 0], 43),
             (&[0, 3, 0, 0, 1, 1, 2, 3], 43),
         ],
         lists: &[(&[0], "1 valid 0 0"), (&[1, 2], "2 clash 2 2 overhang")],
-        listing: Some("plate 3 0 3\n17 out 0\n18 out 1\n19 out 2\n"),
+        listing: "plate 3 0 3\n17 out 0\n18 out 1\n19 out 2\n",
     },
     // The third's row is 4 below the second's.
     Case {
@@ -111,14 +203,13 @@ pub const CASES: [Case; 20] = [
         map: (20, 12),
         label: (4, 3),
         points: &[(18, 10), (18, 9), (18, 5)],
-        best: Some(0),
+        made: Some(&[0, 3, 0, 0, 1, 1, 2, 0]),
         plates: &[
-            (&[0, 3, 0, 0, 1, 1, 2, 0], 0),
             (&[0, 3, 0, 0, 1, 1, 2, 2], 43),
             (&[0, 3, 0, 0, 1, 1, 2, 1], 43),
         ],
         lists: &[(&[0], "1 valid 0 0")],
-        listing: Some("plate 3 0 2\n17 out 0\n18 out 1\n19 out 0\n"),
+        listing: "plate 3 0 2\n17 out 0\n18 out 1\n19 out 0\n",
     },
     // In one column, rows 7 to 9 and rows 10 to 12 would touch.
     Case {
@@ -126,35 +217,35 @@ pub const CASES: [Case; 20] = [
         map: (20, 12),
         label: (4, 3),
         points: &[(18, 7), (18, 10)],
-        best: Some(0),
-        plates: &[(&[0, 2, 1, 0, 0, 1], 0), (&[0, 2, 1, 0, 0, 0], 43)],
+        made: Some(&[0, 2, 1, 0, 0, 1]),
+        plates: &[(&[0, 2, 1, 0, 0, 0], 43)],
         lists: &[(&[0], "1 valid 0 0")],
-        listing: Some("plate 2 0 2\n17 out 1\n18 out 0\n"),
+        listing: "plate 2 0 2\n17 out 1\n18 out 0\n",
     },
     Case {
         name: "touching labels (P3)",
         map: (20, 12),
         label: (4, 2),
         points: &[(2, 3), (6, 4)],
-        best: Some(2),
-        plates: &[(&[2, 0, 1, 0], 0)],
+        made: Some(&[2, 0, 1, 0]),
+        plates: &[],
         lists: &[(&[2, 0, 1], "1 valid 2 0")],
-        listing: Some("plate 2 2 0\n17 in\n18 in\n"),
+        listing: "plate 2 2 0\n17 in\n18 in\n",
     },
     Case {
         name: "the label from under a lower wall",
         map: (20, 12),
         label: (4, 3),
         points: &[(5, 2), (4, 3), (3, 4)],
-        best: Some(1),
-        plates: &[(&[2, 0, 2, 1, 1, 0], 44), (&[1, 0, 2, 2, 0, 1, 1], 0)],
+        made: Some(&[1, 0, 2, 2, 0, 1, 1]),
+        plates: &[(&[2, 0, 2, 1, 1, 0], 44)],
         lists: &[
             (&[2, 0, 2], "1 clash 0 2 labels"),
             (&[1, 0], "2 valid 1 0"),
             (&[1, 1], "3 valid 1 0"),
             (&[1, 2], "4 valid 1 0"),
         ],
-        listing: None,
+        listing: "plate 3 1 2\n17 in\n18 out 1\n19 out 0\n",
     },
     // The labels of 2 and of 3 meet 1's label and 1's leader, 4's meets 0's label and 0's leader;
     // so only 0 and 1 can be inside, and they are free of all others. Outside are rows 5, 4 and 0.
@@ -163,9 +254,8 @@ pub const CASES: [Case; 20] = [
         map: (20, 12),
         label: (4, 3),
         points: &[(11, 2), (8, 6), (6, 5), (5, 4), (10, 0)],
-        best: Some(2),
+        made: Some(&[2, 0, 1, 3, 2, 0, 3, 1, 4, 0]),
         plates: &[
-            (&[2, 0, 1, 3, 2, 0, 3, 1, 4, 0], 0),
             (&[2, 0, 1, 3, 2, 0, 3, 1, 4, 2], 43),
             (&[2, 0, 1, 3, 2, 0, 3, 0, 4, 0], 43),
             (&[1, 2, 4, 1, 0, 3, 1, 0, 2, 4, 3], 44),
@@ -177,7 +267,7 @@ pub const CASES: [Case; 20] = [
             (&[2, 1, 4], "4 clash 0 4 leader"),
             (&[1, 0], "5 valid 1 1"),
         ],
-        listing: Some("plate 5 2 2\n17 in\n18 in\n19 out 0\n20 out 1\n21 out 0\n"),
+        listing: "plate 5 2 2\n17 in\n18 in\n19 out 0\n20 out 1\n21 out 0\n",
     },
     // The label would take columns 18 to 21; the map's last one is 19.
     Case {
@@ -185,10 +275,10 @@ pub const CASES: [Case; 20] = [
         map: (20, 10),
         label: (4, 2),
         points: &[(18, 2)],
-        best: Some(0),
-        plates: &[(&[0, 1, 0, 0], 0), (&[1, 0, 0], 44)],
+        made: Some(&[0, 1, 0, 0]),
+        plates: &[(&[1, 0, 0], 44)],
         lists: &[(&[1, 0], "1 clash 0 0 overhang"), (&[0], "2 valid 0 0")],
-        listing: Some("plate 1 0 1\n17 out 0\n"),
+        listing: "plate 1 0 1\n17 out 0\n",
     },
     // The labels end in the last column, in the last row, and one past each of them.
     Case {
@@ -196,9 +286,8 @@ pub const CASES: [Case; 20] = [
         map: (20, 10),
         label: (4, 2),
         points: &[(16, 3), (5, 8), (17, 6), (4, 9)],
-        best: Some(2),
+        made: Some(&[2, 0, 1, 2, 3, 0, 2, 0]),
         plates: &[
-            (&[2, 0, 1, 2, 3, 0, 2, 0], 0),
             (&[2, 0, 2, 2, 3, 0, 1, 1], 44),
             (&[3, 0, 1, 3, 1, 2, 0], 44),
         ],
@@ -209,7 +298,7 @@ pub const CASES: [Case; 20] = [
             (&[1, 3], "4 clash 3 3 overhang"),
             (&[4, 0, 1, 2, 3], "5 clash 1 3 labels"),
         ],
-        listing: Some("plate 4 2 1\n17 in\n18 in\n19 out 0\n20 out 0\n"),
+        listing: "plate 4 2 1\n17 in\n18 in\n19 out 0\n20 out 0\n",
     },
     // Point 1 overhangs, clear of the others; the label of 2 meets the label and the leader of 0.
     Case {
@@ -217,8 +306,8 @@ pub const CASES: [Case; 20] = [
         map: (20, 10),
         label: (4, 2),
         points: &[(8, 3), (18, 5), (6, 2)],
-        best: Some(1),
-        plates: &[(&[1, 0, 2, 1, 0, 2, 0], 0), (&[2, 1, 2, 1, 0, 0], 44)],
+        made: Some(&[1, 0, 2, 1, 0, 2, 0]),
+        plates: &[(&[2, 1, 2, 1, 0, 0], 44)],
         lists: &[
             (&[2, 1, 2], "1 clash 0 2 leader"),
             (&[1, 1], "2 clash 1 1 overhang"),
@@ -226,7 +315,7 @@ pub const CASES: [Case; 20] = [
             (&[3, 0, 1, 2], "4 clash 0 2 labels"),
             (&[1, 0], "5 valid 1 0"),
         ],
-        listing: Some("plate 3 1 1\n17 in\n18 out 0\n19 out 0\n"),
+        listing: "plate 3 1 1\n17 in\n18 out 0\n19 out 0\n",
     },
     // Point 0 overhangs, so that its leader bars the label of 1, which its own label meets too.
     Case {
@@ -234,15 +323,15 @@ pub const CASES: [Case; 20] = [
         map: (20, 10),
         label: (4, 2),
         points: &[(17, 4), (15, 3)],
-        best: Some(0),
-        plates: &[(&[0, 2, 0, 0, 1, 1], 0), (&[2, 0, 1, 0], 44)],
+        made: Some(&[0, 2, 0, 0, 1, 1]),
+        plates: &[(&[2, 0, 1, 0], 44)],
         lists: &[
             (&[2, 0, 1], "1 clash 0 0 overhang"),
             (&[1, 1], "2 clash 0 1 leader"),
             (&[1, 0], "3 clash 0 0 overhang"),
             (&[0], "4 valid 0 0"),
         ],
-        listing: Some("plate 2 0 2\n17 out 0\n18 out 1\n"),
+        listing: "plate 2 0 2\n17 out 0\n18 out 1\n",
     },
     // The label of 0, columns 2 to 5 of rows 3 and 4, is on the leader of 1, row 3 up to column 8.
     Case {
@@ -250,9 +339,8 @@ pub const CASES: [Case; 20] = [
         map: (20, 12),
         label: (4, 2),
         points: &[(2, 3), (8, 3)],
-        best: Some(2),
+        made: Some(&[2, 0, 1, 0]),
         plates: &[
-            (&[2, 0, 1, 0], 0),
             (&[1, 0, 1, 1, 0], 44),
             (&[1, 1, 1, 0, 0], 0),
             (&[0, 2, 0, 0, 1, 1], 44),
@@ -265,17 +353,16 @@ pub const CASES: [Case; 20] = [
             (&[1, 1], "3 valid 1 1"),
             (&[0], "4 clash 0 1 leaders"),
         ],
-        listing: Some("plate 2 2 0\n17 in\n18 in\n"),
+        listing: "plate 2 2 0\n17 in\n18 in\n",
     },
     Case {
         name: "two in a row, the smaller column second",
         map: (20, 12),
         label: (4, 2),
         points: &[(5, 3), (2, 3)],
-        best: Some(1),
+        made: Some(&[1, 0, 1, 1, 0]),
         plates: &[
             (&[2, 0, 1, 0], 44),
-            (&[1, 0, 1, 1, 0], 0),
             (&[1, 1, 1, 0, 0], 44),
             (&[0, 2, 1, 0, 0, 1], 44),
             (&[0, 2, 0, 0, 1, 1], 43),
@@ -286,7 +373,7 @@ pub const CASES: [Case; 20] = [
             (&[1, 1], "3 clash 0 1 leader"),
             (&[0], "4 clash 0 1 leaders"),
         ],
-        listing: Some("plate 2 1 1\n17 in\n18 out 0\n"),
+        listing: "plate 2 1 1\n17 in\n18 out 0\n",
     },
     // In each row the two labels would meet, and only the left point can be outside.
     Case {
@@ -294,18 +381,15 @@ pub const CASES: [Case; 20] = [
         map: (20, 12),
         label: (4, 2),
         points: &[(2, 3), (5, 3), (10, 8), (12, 8)],
-        best: Some(2),
-        plates: &[
-            (&[2, 1, 3, 2, 2, 0, 0, 0], 0),
-            (&[2, 1, 2, 2, 3, 0, 0, 0], 44),
-        ],
+        made: Some(&[2, 1, 3, 2, 2, 0, 0, 0]),
+        plates: &[(&[2, 1, 2, 2, 3, 0, 0, 0], 44)],
         lists: &[
             (&[2, 1, 3], "1 valid 2 0"),
             (&[1, 3], "2 clash 0 1 leaders"),
             (&[1, 1], "3 clash 2 3 leaders"),
             (&[2, 1, 2], "4 clash 2 3 leader"),
         ],
-        listing: Some("plate 4 2 1\n17 out 0\n18 in\n19 out 0\n20 in\n"),
+        listing: "plate 4 2 1\n17 out 0\n18 in\n19 out 0\n20 in\n",
     },
     // 1 and 2 are two leaders; the label of 0 is on the leader of 2; and 3's label leaves the map.
     Case {
@@ -313,18 +397,15 @@ pub const CASES: [Case; 20] = [
         map: (20, 12),
         label: (4, 2),
         points: &[(3, 3), (2, 3), (8, 3), (18, 7)],
-        best: Some(2),
-        plates: &[
-            (&[2, 0, 2, 2, 3, 0, 1, 0], 0),
-            (&[1, 2, 3, 3, 0, 1, 0, 0, 1], 44),
-        ],
+        made: Some(&[2, 0, 2, 2, 3, 0, 1, 0]),
+        plates: &[(&[1, 2, 3, 3, 0, 1, 0, 0, 1], 44)],
         lists: &[
             (&[1, 0], "1 clash 0 2 leader"),
             (&[2, 2, 3], "2 clash 0 1 leaders"),
             (&[2, 0, 3], "3 clash 0 2 leader"),
             (&[0], "4 clash 0 1 leaders"),
         ],
-        listing: Some("plate 4 2 1\n17 in\n18 out 0\n19 in\n20 out 0\n"),
+        listing: "plate 4 2 1\n17 in\n18 out 0\n19 in\n20 out 0\n",
     },
     // One point at most can be outside. The labels of 0 and 1 would meet, and those of 1 and 2; with 1
     // outside, its leader runs through the label of 0.
@@ -333,7 +414,7 @@ pub const CASES: [Case; 20] = [
         map: (20, 12),
         label: (4, 2),
         points: &[(0, 3), (2, 3), (4, 3)],
-        best: None,
+        made: None,
         plates: &[
             (&[3, 0, 1, 2, 0], 44),
             (&[2, 0, 2, 1, 1, 0], 44),
@@ -341,17 +422,17 @@ pub const CASES: [Case; 20] = [
             (&[0, 3, 2, 0, 1, 1, 0, 2], 43),
         ],
         lists: &[(&[0], "refused 51")],
-        listing: Some("refused 61\n"),
+        listing: "refused 61\n",
     },
     Case {
         name: "no valid choice, and a point elsewhere",
         map: (20, 12),
         label: (4, 2),
         points: &[(0, 3), (2, 3), (4, 3), (12, 8)],
-        best: None,
+        made: None,
         plates: &[(&[3, 0, 2, 3, 1, 1, 0], 44)],
         lists: &[(&[1, 3], "refused 51")],
-        listing: Some("refused 61\n"),
+        listing: "refused 61\n",
     },
 ];
 
@@ -366,10 +447,19 @@ impl Case {
 
     /// The number of a making or a load: 61 if no choice is valid.
     fn number(&self) -> u8 {
-        match self.best {
+        match self.made {
             Some(_) => 0,
             None => 61,
         }
+    }
+
+    /// What comes after the sheet's bytes in each plate, the one made first, and the number of its
+    /// reading.
+    pub fn all_plates(&self) -> Vec<(&'static [u8], u8)> {
+        let made = self.made.map(|added| (added, 0));
+        made.into_iter()
+            .chain(self.plates.iter().copied())
+            .collect()
     }
 
     /// The sheet's bytes and then these.
@@ -383,12 +473,8 @@ impl Case {
         let buffers = Buffers::just_enough(self.points.len(), Content::Greatest);
         check(report, &sheet)?;
         let plate = making(report, &sheet, buffers)?;
-        let count = plate.as_ref().map(|plate| plate[sheet.len()].into());
-        same("the inside count and the document's", count, self.best)?;
-        if let (Some(plate), Some(wanted)) = (plate, self.listing) {
-            listing(report, &plate, wanted)?;
-        }
-        for &(added, number) in self.plates {
+        self.made_by_hand(report, plate.as_deref())?;
+        for (added, number) in self.all_plates() {
             let own = reading(report, &self.plate(added))?;
             same("the reading and the document's", own, number)?;
         }
@@ -403,16 +489,25 @@ impl Case {
         self.run_programs(report)
     }
 
+    /// The plate made, if one was, and its listing are the document's.
+    fn made_by_hand(&self, report: &mut Report, plate: Option<&[u8]>) -> Compared {
+        let (Some(plate), Some(added)) = (plate, self.made) else {
+            let as_wanted = plate.is_some() == self.made.is_some();
+            return must(as_wanted, "a plate is made just where the document has one");
+        };
+        same_plate(&self.sheet(), plate, &self.plate(added))?;
+        listing(report, plate, self.listing)
+    }
+
     /// The same sheet printed, and the same load and marks as a script.
     fn run_programs(&self, report: &mut Report) -> Compared {
-        let printed = printing(report, &[&self.sheet()])?;
-        if let Some(wanted) = self.listing {
-            let message = format!("print_plate writes {printed:?}, the document has {wanted:?}");
-            must(printed == wanted, &message)?;
-        }
+        let (printed, wanted) = (printing(report, &[&self.sheet()])?, self.listing);
+        let message = format!("print_plate writes {printed:?}, the document has {wanted:?}");
+        must(printed == wanted, &message)?;
         let mut script = Calls::default();
-        let mut wanted = match self.best {
-            Some(best) => format!("loaded {} {best}\n", self.points.len()),
+        let mut wanted = match self.made {
+            // The plate made starts, after the sheet, with the best count.
+            Some(added) => format!("loaded {} {}\n", self.points.len(), added[0]),
             None => "refused 61\n".to_string(),
         };
         script.call(LOAD, &self.sheet());

@@ -3,16 +3,18 @@
 //! The input is a sequence of calls, in the form of a desk's script: a kind byte and one part, which
 //! is a two-byte length, low byte first, and that many bytes. Kind 1 is a load on the program's desk
 //! (fresh at the start), 2 a mark there, 11 a sheet that is made into a plate, 12 a plate that is
-//! read. Each call gives one line. A call cut short or another kind byte gives the line `bad call`,
-//! and the program stops.
+//! read. Each call gives one line; that of a plate made has all its bytes. A call cut short or another
+//! kind byte gives the line `bad call`, and the program stops.
 
 use crate::cases::CASES;
 use crate::damage::{aim_at_list, aim_at_plate, aim_at_sheet, once_in};
 use crate::parts::{any_list, any_plate};
 use crate::scripts::Calls;
-use crate::sheets::{sheet, small_sheet};
+use crate::sheets::{crowded_sheet, sheet, small_sheet};
 use reference::random::Random;
 use reference::script::{desk_line, run_calls, LOAD, MARK};
+use reference::search::TRY_ALL_POINTS;
+use reference::sheet::MOST_POINTS;
 use reference::{Desk, Sheet, WORKSPACE_NUMBERS};
 
 const SHEET: u8 = 11;
@@ -32,29 +34,27 @@ pub fn lines(input: &[u8]) -> String {
 }
 
 fn sheet_line(bytes: &[u8]) -> String {
-    let sheet = match Sheet::read(bytes) {
-        Ok(sheet) => sheet,
-        Err(number) => return format!("sheet refused {number}"),
-    };
-    let Some(choice) = reference::best_choice(&sheet) else {
-        return "sheet refused 61".to_string();
-    };
-    let validity = match reference::valid(&sheet, choice) {
-        true => "valid",
-        false => "not valid",
-    };
-    let (points, best) = (sheet.points().len(), choice.0.count_ones());
-    format!("sheet {points} {best} {validity}")
+    match reference::make(bytes, MOST_OUTPUT, WORKSPACE_NUMBERS) {
+        Ok(plate) => format!("sheet made{}", numbers(&plate)),
+        Err(number) => format!("sheet refused {number}"),
+    }
 }
 
 fn plate_line(bytes: &[u8]) -> String {
     let reading = reference::read_plate(bytes);
-    if reading.number != 0 {
-        return format!("plate refused {}", reading.number);
+    match reading.number {
+        0 => format!("plate accepted{}", numbers(reading.inside)),
+        number => format!("plate refused {number}"),
     }
-    let inside: String = reading.inside.iter().map(|p| format!(" {p}")).collect();
-    format!("plate accepted{inside}")
 }
+
+/// The bytes as numbers, each after a space.
+fn numbers(bytes: &[u8]) -> String {
+    bytes.iter().map(|byte| format!(" {byte}")).collect()
+}
+
+/// The output that a making asks for, with the most points.
+const MOST_OUTPUT: usize = 12 + 8 * MOST_POINTS;
 
 /// The most bytes of an input, and of one made-up part.
 const MOST: usize = 60_000;
@@ -63,8 +63,12 @@ const MOST_PART: usize = 500;
 /// How many calls are made up.
 const MADE_UP: usize = 200;
 
+/// How many of these, at least, are sheets with several best choices.
+const TIES: usize = 5;
+
 /// An input: the documents' examples, then made-up calls: each number that the program can
-/// meet, then any. A kind that isn't known ends the run, so that the call after it has no line.
+/// meet, sheets with several best choices, then any. A kind that isn't known ends the run, so that
+/// the call after it has no line.
 pub fn input(seed: u64) -> Result<Vec<u8>, String> {
     let mut random = Random::new(seed);
     let mut input = Calls::default();
@@ -73,7 +77,7 @@ pub fn input(seed: u64) -> Result<Vec<u8>, String> {
     input.call(MARK, &[3, 0]);
     for case in &CASES {
         input.call(SHEET, &case.sheet());
-        for (added, _) in case.plates {
+        for (added, _) in case.all_plates() {
             input.call(PLATE, &case.plate(added));
         }
         input.call(LOAD, &case.sheet());
@@ -81,7 +85,7 @@ pub fn input(seed: u64) -> Result<Vec<u8>, String> {
             input.call(MARK, list);
         }
     }
-    let mut made_up = aimed(&mut random, &mut input)?;
+    let mut made_up = aimed(&mut random, &mut input)? + ties(&mut random, &mut input);
     while made_up < MADE_UP {
         any_call(&mut random, &mut input);
         made_up += 1;
@@ -141,6 +145,25 @@ fn aimed(random: &mut Random, input: &mut Calls) -> Result<usize, String> {
         calls += 1;
     }
     Ok(calls)
+}
+
+/// Sheets of many points with several best choices. Gives how many calls that was.
+fn ties(random: &mut Random, input: &mut Calls) -> usize {
+    for _ in 0..TIES {
+        let part = until(random, |random| {
+            let bytes = crowded_sheet(random);
+            with_a_tie(&bytes).then_some(bytes)
+        });
+        input.call(SHEET, &part);
+    }
+    TIES
+}
+
+/// The bytes are a sheet of more points than the reference tries every choice of, and several of its
+/// choices are best.
+fn with_a_tie(bytes: &[u8]) -> bool {
+    let many = |sheet: &Sheet| sheet.points().len() > TRY_ALL_POINTS;
+    Sheet::read(bytes).is_ok_and(|sheet| many(&sheet) && reference::several_best(&sheet))
 }
 
 /// The bytes are a sheet, and no choice of it is valid.

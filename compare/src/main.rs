@@ -1,6 +1,6 @@
 //! Compares the proved library with the reference, call by call, and what the programs print_plate and
 //! desk_session print with the reference's texts: document 01's worked examples that aren't marked
-//! (P), examples of document 02 (a) to (c), and thousands of made-up cases, from a fixed seed and,
+//! (P), examples of document 02 (a) to (d), and thousands of made-up cases, from a fixed seed and,
 //! beside them, from a fresh one. A difference ends its seed's cases, and is shown with the bytes in
 //! hand, the seeds, and exit status 1.
 

@@ -5,12 +5,14 @@ use crate::damage::{aim_at_sheet, damage_list, damage_plate, damage_sheet};
 use crate::damage::{lengthen_much, once_in, reverse_a_row, stack_without_gap, wrap_counts};
 use crate::lent::Content;
 use crate::report::{Report, LEADERS_READ, NEVER_A_PLATE, ROW_REVERSED, STACKED, WRAPPED};
+use crate::report::{TIES_SEARCHED, TIES_TRIED};
 use crate::scripts::{script, script_to_52};
 use crate::sheets::{crowded_sheet, sheet, sheet_of, small_sheet};
 use crate::side_by_side::{check, listing_of_no_plate, making, printing, reading, same, session};
 use crate::side_by_side::{Buffers, Compared, Desks};
 use reference::random::Random;
-use reference::{best_choice, Choice, Sheet};
+use reference::search::TRY_ALL_POINTS;
+use reference::{best_choice, several_best, Choice, Sheet};
 
 pub struct Part {
     pub name: &'static str,
@@ -94,13 +96,9 @@ fn sheets(random: &mut Random, report: &mut Report) -> Compared {
         if buffers.output > enough.output && buffers.workspace > enough.workspace {
             report.feature("makings with longer buffers");
         }
+        note_tie(report, &sheet);
         let number = reading(report, &plate)?;
         same("the reading of a made plate, and yes", number, 0)?;
-    }
-    // The reference's best plate.
-    if let Some(best) = best_choice(&sheet) {
-        let number = reading(report, &reference::plate_bytes(&sheet, best))?;
-        same("the reading of a best plate, and yes", number, 0)?;
     }
     // Nothing inside: valid exactly if no two leaders are in one row.
     let wanted = match shares_rows(&sheet) {
@@ -113,6 +111,16 @@ fn sheets(random: &mut Random, report: &mut Report) -> Compared {
         report.feature(LEADERS_READ);
     }
     Ok(())
+}
+
+/// Notes whether the plate made of this sheet is that of one of several best choices.
+fn note_tie(report: &mut Report, sheet: &Sheet) {
+    if several_best(sheet) {
+        report.feature(match sheet.points().len() <= TRY_ALL_POINTS {
+            true => TIES_TRIED,
+            false => TIES_SEARCHED,
+        });
+    }
 }
 
 /// Are two points of the sheet in one row?

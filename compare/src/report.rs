@@ -120,6 +120,11 @@ pub const LISTED_MANY: &str = "listed: more than 32 points";
 pub const TRIED: &str = "bests by every choice, up to 12 points";
 pub const SEARCHED: &str = "bests by the search, above 12 points";
 
+/// Plates of sheets with several best choices: one made, with the way to the best count, or printed.
+pub const TIES_TRIED: &str = "ties decided, up to 12 points";
+pub const TIES_SEARCHED: &str = "ties decided, above 12 points";
+pub const PRINTED_TIES: &str = "printed: ties decided";
+
 /// The verdicts on lists.
 const VERDICTS: [&str; 6] = [
     "lists valid, shortfall 0",
@@ -166,11 +171,13 @@ pub const PRINTED_PIECES: &str = "printed: an input in pieces";
 pub const SCRIPT_PIECES: &str = "scripts in pieces";
 
 /// Features that must have been seen.
-const FEATURES: [&str; 51] = [
+const FEATURES: [&str; 54] = [
     "best plates with every point inside",
     "best plates with points outside",
     TRIED,
     SEARCHED,
+    TIES_TRIED,
+    TIES_SEARCHED,
     "sheets with equal columns",
     "sheets with distinct rows",
     "sheets with shared rows",
@@ -200,6 +207,7 @@ const FEATURES: [&str; 51] = [
     "printed: 1 margin column",
     "printed: several margin columns",
     PRINTED_NOT_LAST,
+    PRINTED_TIES,
     "printed: an input of 0 bytes",
     "printed: an input above 4,096 bytes",
     PRINTED_PIECES,
@@ -220,12 +228,9 @@ const FEATURES: [&str; 51] = [
     SCRIPT_PIECES,
 ];
 
-/// What may be seen or not: where several best choices exist, the library is free to take any.
-pub const OTHER_CHOICE: &str = "best choices unlike the reference's";
-
-/// How often each answer of each call, each point count and each workspace must be seen; and the same
-/// of a program, which is run less often, as its start takes a millisecond. It is so far below what is
-/// to be expected that no seed misses it by chance.
+/// How often each answer of each call, each point count, each workspace and a tie must be seen; and the
+/// same of a program, which is run less often, as its start takes a millisecond. It is so far below what
+/// is to be expected that no seed misses it by chance.
 const OFTEN: u64 = 50;
 const OFTEN_OF_PROGRAM: u64 = 3;
 
@@ -233,6 +238,14 @@ fn often(call: Call) -> u64 {
     match call {
         Call::Print | Call::RunLoad | Call::RunMark => OFTEN_OF_PROGRAM,
         _ => OFTEN,
+    }
+}
+
+fn often_of_feature(feature: &str) -> u64 {
+    match feature {
+        TIES_TRIED | TIES_SEARCHED => OFTEN,
+        PRINTED_TIES => OFTEN_OF_PROGRAM,
+        _ => 1,
     }
 }
 
@@ -250,7 +263,7 @@ fn required() -> Vec<(Seen, u64)> {
     for call in WITH_VERDICT {
         required.extend(VERDICTS.map(|verdict| (Seen::Verdict(call, verdict), often(call))));
     }
-    required.extend(FEATURES.map(|feature| (Seen::Feature(feature), 1)));
+    required.extend(FEATURES.map(|feature| (Seen::Feature(feature), often_of_feature(feature))));
     required
 }
 
@@ -368,13 +381,13 @@ impl Report {
 
     /// The tables.
     pub fn tables(&self) -> String {
-        let features = FEATURES.into_iter().chain([OTHER_CHOICE]);
         [
             self.answers(),
             self.points(),
             self.workspaces(),
             self.verdicts(),
-            features
+            FEATURES
+                .into_iter()
                 .map(|feature| (feature, self.count(Seen::Feature(feature))))
                 .map(|(feature, count)| format!("{feature:<40}{count:>9}\n"))
                 .collect(),

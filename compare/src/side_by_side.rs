@@ -4,13 +4,14 @@
 use crate::lent::{length_name, Content, Lent};
 use crate::library;
 use crate::programs::{self, Program};
-use crate::report::{Call, Report, Seen, EMPTY_START, ONE_TOO_FEW, OTHER_CHOICE, SEARCHED, TRIED};
+use crate::report::{Call, Report, Seen, EMPTY_START, ONE_TOO_FEW, SEARCHED, TRIED};
 use crate::report::{KEPT_BY_61, LISTED_MANY, LISTED_NO_PLATE, LISTED_TOO_SHORT, ZEROED_BY_61};
-use crate::report::{PRINTED_NOT_LAST, PRINTED_PIECES, SCRIPT_PIECES};
+use crate::report::{PRINTED_NOT_LAST, PRINTED_PIECES, PRINTED_TIES, SCRIPT_PIECES};
 use crate::scripts;
 use reference::margin::outside_pairs;
 use reference::search::TRY_ALL_POINTS;
-use reference::{margin_width, Choice, Marked, Sheet, WORKSPACE_NUMBERS};
+use reference::WORKSPACE_NUMBERS;
+use reference::{best_choice, margin_width, several_best, Choice, Marked, Sheet};
 use std::fmt::Display;
 
 pub type Compared = Result<(), String>;
@@ -128,12 +129,13 @@ pub fn making(
     let mut workspace = buffers.lent_workspace();
     let answer = library::make(lent.part(), output.lend(), workspace.lend());
     let number = number_of(&answer);
-    let wanted = reference::making_no(bytes, buffers.output, buffers.workspace);
-    same(&format!("making with {buffers:?}"), number, wanted)?;
+    let wanted = reference::make(bytes, buffers.output, buffers.workspace);
+    let wanted_number = number_of(&wanted);
+    same(&format!("making with {buffers:?}"), number, wanted_number)?;
     must(lent.untouched(), "the making wrote to its sheet")?;
     report.answered(Call::Make, number);
     workspace_after(report, Call::Make, number, buffers, &workspace)?;
-    let Ok(written) = answer else {
+    let (Ok(written), Ok(wanted)) = (answer, wanted) else {
         must(output.untouched(), "a refused making wrote to the output")?;
         return Ok(None);
     };
@@ -141,41 +143,37 @@ pub fn making(
     must(untouched, "bytes beside the plate were touched")?;
     let plate = output.part()[..written].to_vec();
     report.hold("plate made", &plate);
+    same_plate(bytes, &plate, &wanted)?;
     made_plate(report, bytes, &plate)?;
     Ok(Some(plate))
 }
 
-/// The plate is the one of a valid choice, and the choice has the best count.
+/// Fails unless a plate that was made of this sheet is just the wanted one. The message has what comes
+/// after the sheet's bytes.
+pub fn same_plate(sheet: &[u8], plate: &[u8], wanted: &[u8]) -> Compared {
+    if plate == wanted {
+        return Ok(());
+    }
+    let differs = plate.iter().zip(wanted).position(|(a, b)| a != b);
+    let place = differs.unwrap_or(plate.len().min(wanted.len()));
+    let [plate, wanted] = [plate, wanted].map(|plate| plate.get(sheet.len()..).unwrap_or_default());
+    let differ = format!("after the sheet it has {plate:?}, and must have {wanted:?}");
+    Err(format!("the plate differs at byte {place}: {differ}"))
+}
+
+/// The listing of a plate that was made of this sheet, as it must be, and what there is to see in it.
 fn made_plate(report: &mut Report, bytes: &[u8], plate: &[u8]) -> Compared {
     let sheet = accepted_sheet(bytes)?;
     let n = sheet.points().len();
     let choice = choice_of_plate(plate).ok_or("the plate has no inside list")?;
-    let wanted = reference::plate_bytes(&sheet, choice);
-    same("the plate of its own choice", plate, &wanted[..])?;
-    listing(report, plate, &reference::listing(bytes, choice))?;
-    let best = must_be_best(&sheet, choice)?;
+    listing(report, plate, &reference::listing(&sheet, choice))?;
     report.accepted(Call::Make, n);
     report.feature(way_to_best(n));
     report.feature(match usize::try_from(choice.0.count_ones()) == Ok(n) {
         true => "best plates with every point inside",
         false => "best plates with points outside",
     });
-    if choice != best {
-        report.feature(OTHER_CHOICE);
-    }
     Ok(())
-}
-
-/// Fails unless the choice is valid and has the best count. Gives the reference's best choice.
-fn must_be_best(sheet: &Sheet, choice: Choice) -> Result<Choice, String> {
-    must(reference::valid(sheet, choice), "the choice isn't valid")?;
-    let best = reference::best_choice(sheet).ok_or("the reference finds no valid choice")?;
-    let valid = reference::valid(sheet, best);
-    must(valid, "the reference's choice isn't valid")?;
-    let (count, best_count) = (choice.0.count_ones(), best.0.count_ones());
-    let message = format!("the choice has {count} points inside, the best is {best_count}");
-    must(count == best_count, &message)?;
-    Ok(best)
 }
 
 /// How the reference finds the best count of n points.
@@ -212,8 +210,8 @@ pub fn reading(report: &mut Report, plate: &[u8]) -> Result<u8, String> {
             same("the inside list", inside, reference.inside)?;
             same("the inside list's place", place(inside), start)?;
             report.accepted(Call::Read, plate[9].into());
-            let (sheet, choice) = (&plate[..start - 1], Choice::of(inside));
-            listing(report, plate, &reference::listing(sheet, choice))?;
+            let (sheet, choice) = (accepted_sheet(&plate[..start - 1])?, Choice::of(inside));
+            listing(report, plate, &reference::listing(&sheet, choice))?;
         }
         Err(_) => {
             let (_, start, count) = exported;
@@ -363,14 +361,9 @@ pub fn printing(report: &mut Report, pieces: &[&[u8]]) -> Result<String, String>
     let bytes = pieces.concat();
     report.hold("sheet to print", &bytes);
     let printed = programs::run(Program::PrintPlate, pieces)?;
-    let (number, choice) = match Sheet::read(&bytes) {
-        Ok(sheet) if reference::best_choice(&sheet).is_none() => (61, Choice::default()),
-        Ok(sheet) => (0, printed_choice(report, &sheet, &printed)?),
-        Err(number) => (number, Choice::default()),
-    };
-    let wanted = reference::listing(&bytes, choice);
+    let wanted = reference::printed(&bytes);
     same_text(Program::PrintPlate, &printed, &wanted)?;
-    report.answered(Call::Print, number);
+    note_printed(report, &bytes);
     if pieces.len() > 1 {
         report.feature(PRINTED_PIECES);
     }
@@ -382,10 +375,20 @@ pub fn printing(report: &mut Report, pieces: &[&[u8]]) -> Result<String, String>
     Ok(wanted)
 }
 
-/// The choice that a printed plate names, which must be a best one.
-fn printed_choice(report: &mut Report, sheet: &Sheet, printed: &[u8]) -> Result<Choice, String> {
-    let choice = choice_of_listing(sheet, printed);
-    must_be_best(sheet, choice)?;
+/// Notes what was printed of this sheet: a refusal or a plate.
+fn note_printed(report: &mut Report, bytes: &[u8]) {
+    let number = match Sheet::read(bytes) {
+        Ok(sheet) => note_printed_plate(report, &sheet),
+        Err(number) => number,
+    };
+    report.answered(Call::Print, number);
+}
+
+/// Notes what was printed of an accepted sheet. Gives the number of its making.
+fn note_printed_plate(report: &mut Report, sheet: &Sheet) -> u8 {
+    let Some(choice) = best_choice(sheet) else {
+        return 61;
+    };
     report.accepted(Call::Print, sheet.points().len());
     let (pairs, width) = (outside_pairs(sheet, choice), margin_width(sheet, choice));
     report.feature(match width {
@@ -397,18 +400,10 @@ fn printed_choice(report: &mut Report, sheet: &Sheet, printed: &[u8]) -> Result<
     if width != last && usize::from(width) != pairs.len() {
         report.feature(PRINTED_NOT_LAST);
     }
-    Ok(choice)
-}
-
-/// The choice that a listing's lines name: after the first there is one for each position. Whether
-/// the lines are right otherwise is another question.
-fn choice_of_listing(sheet: &Sheet, text: &[u8]) -> Choice {
-    let lines = text.split(|&byte| byte == b'\n').skip(1);
-    let inside = (0..sheet.points().len() as u8)
-        .zip(lines)
-        .filter(|(_, line)| line.split(|&byte| byte == b' ').nth(1) == Some(b"in"))
-        .map(|(position, _)| position);
-    Choice::of(&inside.collect::<Vec<u8>>())
+    if several_best(sheet) {
+        report.feature(PRINTED_TIES);
+    }
+    0
 }
 
 /// A script, run by desk_session, whose input comes in these pieces. Gives the text.
