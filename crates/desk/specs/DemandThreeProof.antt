@@ -136,8 +136,8 @@ feasible-plate s a f =
         workspace = w;
         answer = Made (length (bestPlate s));
         output-after = outputAfter 0 s o;
-        workspace-after = workspaceAfter 0 w;
-        made = made-making s o w _ _ 0 _ (sym z) refl refl refl refl;
+        workspace-after = workspaceAfter (makingNo s (length o) (length w)) w;
+        made = made-making s o w _ _ _ z refl refl refl;
         not-refused = refl;
         plate = refl;
       },

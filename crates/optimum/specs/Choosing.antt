@@ -44,18 +44,11 @@ pub record Choosing (s : List ℕ) (fits : Bool) (w : List ℕ) (r : BestChoice)
   pub answer : r ≡ chosenOf s (choosingNo s fits (length w))
   pub workspace : w′ ≡ workspaceAfter (choosingNo s fits (length w)) w
 
--- READING THE PROMISE: the number is that of the first no, the workspace is by the number, and where it is 0, the lists are those of the
--- best choice
+-- READING AN ANSWER: its number is that of the first no, and where that is 0, the lists are those of the best choice
 
-number-of : (s : List ℕ) (k : ℕ) → chosenOf s k .no ≡ k
-number-of s k = decide (eqb k 0) (λ e. rw e (sym (eqb-true k 0 e))) (λ e. rw e)
-
-module _ {s : List ℕ} {fits : Bool} {w : List ℕ} {r : BestChoice} {w′ : List ℕ} (c : Choosing s fits w r w′) where
-  pub chosen-no : r .no ≡ choosingNo s fits (length w)
-  chosen-no = ap (λ x. x .no) (c .answer) ∙ number-of s _
-
-  pub chosen-workspace : w′ ≡ workspaceAfter (r .no) w
-  chosen-workspace = c .workspace ∙ ap (λ (k : ℕ). workspaceAfter k w) (sym chosen-no)
+module _ (s : List ℕ) (k : ℕ) (r : BestChoice) (e : r ≡ chosenOf s k) where
+  pub chosen-no : r .no ≡ k
+  chosen-no = decide (eqb k 0) (λ t. rw (e, t) (sym (eqb-true k 0 t))) (λ t. rw (e, t))
 
   pub chosen-split : r .no ≡ 0 → r ≡ splitOf s (bestChoiceOf s)
-  chosen-split z = c .answer ∙ ap (chosenOf s) (sym chosen-no ∙ z)
+  chosen-split z = e ∙ ap (chosenOf s) (sym chosen-no ∙ z)

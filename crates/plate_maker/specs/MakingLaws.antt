@@ -18,20 +18,19 @@ use Rattle.plate_maker.specs.declared.MakeAnswer.{MakeAnswer}
 use Rattle.plate_maker.specs.declared.MakeAnswer.the-variants.{Made, Refused}
 
 -- refused: the output is as it was
-pub refused-making : (s o w w′ : List ℕ) (k : ℕ) → k ≡ makingNo s (length o) (length w) → (k ≡ 0 → ⊥) → w′ ≡ workspaceAfter k w
-    → Making s o w (Refused k) o w′
+pub refused-making : (s o w w′ : List ℕ) (k : ℕ) → k ≡ makingNo s (length o) (length w) → (k ≡ 0 → ⊥)
+    → w′ ≡ workspaceAfter (makingNo s (length o) (length w)) w → Making s o w (Refused k) o w′
 refused-making s o w w′ k e ne z = record {
   outcome = rw (← e, ne-eqb k 0 ne);
-  workspace = rw (← e) z;
+  workspace = z;
   output = rw (← e, ne-eqb k 0 ne);
 }
 
 -- made
-pub made-making : (s o w o′ w′ : List ℕ) (k r : ℕ) → k ≡ makingNo s (length o) (length w) → k ≡ 0 → w′ ≡ workspaceAfter k w
-    → r ≡ length (bestPlate s) → o′ ≡ bestPlate s ++ drop (length (bestPlate s)) o → Making s o w (Made r) o′ w′
-made-making s o w o′ w′ k r e z f written output =
-    let none : makingNo s (length o) (length w) ≡ 0 = sym e ∙ z in
-    record { outcome = rw (none, written); workspace = rw (← e) f; output = rw none output }
+pub made-making : (s o w o′ w′ : List ℕ) (r : ℕ) → makingNo s (length o) (length w) ≡ 0
+    → w′ ≡ workspaceAfter (makingNo s (length o) (length w)) w → r ≡ length (bestPlate s)
+    → o′ ≡ bestPlate s ++ drop (length (bestPlate s)) o → Making s o w (Made r) o′ w′
+made-making s o w o′ w′ r none z written output = record { outcome = rw (none, written); workspace = z; output = rw none output }
 
 -- READING THE PROMISE
 
