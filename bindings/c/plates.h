@@ -62,9 +62,10 @@ uint32_t plate_check_sheet(const uint8_t *sheet, size_t sheet_len);
    the plate are untouched, and the whole workspace is zero afterwards. 61 says
    that no choice of the sheet is valid.
 
-   A sheet has one plate that is made. It has the best count inside; of several
-   such choices it is that with the first point inside, in the sheet's order, at
-   which they differ. */
+   A sheet that has a plate has one best plate, and that is made. It has the best
+   count inside. Of several choices with as many, go through the points in the
+   sheet's order: at the first point where two of them differ, the one with it
+   inside is preferred. */
 struct plate_make_result {
     uint32_t number;
     uint32_t spare; /* 0 */

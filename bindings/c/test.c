@@ -1,6 +1,6 @@
 /* What plates.h says of slices of count 0, of the structs' bytes, of the plate
-   that is made, of a listing's buffer and of a desk's fields. `bindings/run` builds and runs it; it prints
-   what doesn't hold. */
+   that is made, of a listing's buffer and of a desk's fields. `bindings/run`
+   builds and runs it; it prints what doesn't hold. */
 #include "plates.h"
 
 #include <stdio.h>

@@ -120,7 +120,7 @@ pub const LISTED_MANY: &str = "listed: more than 32 points";
 pub const TRIED: &str = "bests by every choice, up to 12 points";
 pub const SEARCHED: &str = "bests by the search, above 12 points";
 
-/// Plates of sheets with several best choices: one made, with the way to the best count, or printed.
+/// Ties: plates made, by how the reference finds the best count, and plates printed.
 pub const TIES_TRIED: &str = "ties decided, up to 12 points";
 pub const TIES_SEARCHED: &str = "ties decided, above 12 points";
 pub const PRINTED_TIES: &str = "printed: ties decided";

@@ -36,9 +36,10 @@ pub fn check_sheet(sheet: &[u8]) -> Result<(), Refusal> {
 /// as they were, but for 61, which says that no choice of the sheet is valid:
 /// with it the whole workspace is zero too.
 ///
-/// A sheet has one plate that is made. It has the best count inside; of several
-/// such choices it is that with the first point inside, in the sheet's order, at
-/// which they differ.
+/// A sheet that has a plate has one best plate, and that is made. It has the best
+/// count inside. Of several choices with as many, go through the points in the
+/// sheet's order: at the first point where two of them differ, the one with it
+/// inside is preferred.
 pub fn make(sheet: &[u8], output: &mut [u8], workspace: &mut [u16]) -> Result<usize, Refusal> {
     let made = ffi::make(sheet, output, workspace);
     written(&made, output.len())

@@ -6,13 +6,13 @@ use mathlib.Core.List.{List, [], _∷_, _++_, append-nil}
 use mathlib.Core.Option.{Option, none, some}
 use Prim.Native.Nat.{ℕ, suc, _+_, _*_, _≤_, _<_}
 use lib.Dec.{eqb}
-use lib.ListN.{length, take, drop, replicate, length-append, length-replicate}
+use lib.ListN.{length, take, replicate, length-append, length-replicate}
 use borrow.Author.Tests.{eqb-true, eqb-false}
 use native.Mathlib.Omega.{arith}
 use Rattle.format.specs.Sizes.{workspaceCells}
 use Rattle.labeling.specs.Points.{Choice}
 use Rattle.labeling.specs.Marks.{Valid}
-use Rattle.labeling.specs.Best.{weight, count, Feasible, bestCount}
+use Rattle.labeling.specs.Best.{weight, count, oneEach, Preferred, Feasible, bestCount}
 use Rattle.labeling.specs.Agree.{valid-agree}
 use Rattle.labeling.specs.Greatest.{best-counts, best-count-most}
 use Rattle.labeling.specs.Decide.{not-both, decide}
@@ -108,19 +108,26 @@ module _ (s : List ℕ) (a : Accepted s) (S : Choice) (v : Valid (pointsOf s) S)
         best = e;
       }
 
--- "A plate made from S": only the promise of make is used.
-plate-made-best : (s p : List ℕ) → Accepted s → PlateMade s p → BestList s (sectionRead p)
-unfolding bestPlate
-plate-made-best s p a m = by (m .answer) (m .made) (m .not-refused) (m .plate)
+-- "A plate made from S" is the best plate, whose choice is the preferred one: only the promise of make is used.
+plate-made : (s p : List ℕ) → PlateMade s p → (p ≡ bestPlate s) × Preferred (pointsOf s) oneEach (bestChoiceOf s)
+plate-made s p m = by (m .answer) (m .made) (m .not-refused) (m .plate)
   where
     by : {o w o′ w′ : List ℕ} (answer : MakeAnswer) → Making s o w answer o′ w′ → makeOutcome answer .refused ≡ false
-        → p ≡ take (makeOutcome answer .written) o′ → BestList s (sectionRead p)
+        → p ≡ take (makeOutcome answer .written) o′ → (p ≡ bestPlate s) × Preferred (pointsOf s) oneEach (bestChoiceOf s)
     by (Refused k) m e q = absurd (true≢false e)
-    by (Made r) m e q =
-        let b = made-preferred m .best in
-        let S = bestChoiceOf s in
-        rw (q, made-start m, section-read s S a)
-        (choice-best s a S (b .valid) (best-counts (pointsOf s) S (a .proper .label-width .0) b))
+    by (Made r) m e q = (q ∙ made-start m, made-preferred m)
+
+-- THE SAME PLATE FROM EVERY DESK (document 02 (d)): two plates made from one sheet, with any buffers, are one.
+pub one-plate : (s p q : List ℕ) → PlateMade s p → PlateMade s q → p ≡ q
+one-plate s p q m n = plate-made s p m .0 ∙ sym (plate-made s q n .0)
+
+plate-made-best : (s p : List ℕ) → Accepted s → PlateMade s p → BestList s (sectionRead p)
+unfolding bestPlate
+plate-made-best s p a m =
+    let x = plate-made s p m in
+    let S = bestChoiceOf s in
+    let b = x .1 .best in
+    rw (x .0, section-read s S a) (choice-best s a S (b .valid) (best-counts (pointsOf s) S (a .proper .label-width .0) b))
 
 -- from every accepted sheet that has a valid choice some plate is made: the best plate with zeroed buffers meets the promise
 feasible-plate : (s : List ℕ) → Accepted s → Feasible (pointsOf s) → (p : List ℕ) × PlateMade s p

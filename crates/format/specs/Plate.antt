@@ -36,8 +36,7 @@ outsideSection s S = let l = outside (pointsOf s) S in length l ∷ pairs (place
 unfoldable pub plateOf : List ℕ → Choice → List ℕ
 plateOf s S = s ++ insideSection s S ++ outsideSection s S
 
--- The best choice of a sheet: of those with the best count the preferred one, "the one with it inside" "at the first point where two of them
--- differ" (document 02 (d)).
+-- The best choice of a sheet: of those with the best count the preferred one (document 02 (d); labeling's Best.antt has the sentence).
 abbrev pub bestChoiceOf : List ℕ → Choice
 bestChoiceOf s = bestChoice (pointsOf s) oneEach
 

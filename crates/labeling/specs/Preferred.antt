@@ -8,7 +8,7 @@ use native.Mathlib.Omega.{arith}
 use Rattle.labeling.specs.Points.{Points, Choice}
 use Rattle.labeling.specs.Marks.{Valid}
 use Rattle.labeling.specs.Decide.{not-both, decide, same}
-use Rattle.labeling.specs.Best.{weight, Best, Agree, FirstDifference, Preferred, put, bestFrom, best, bestChoiceFrom, bestChoice}
+use Rattle.labeling.specs.Best.{weight, Agree, Preferred, put, bestFrom, best, bestChoiceFrom, bestChoice}
 use Rattle.labeling.specs.Greatest.{UpTo, put-at, put-off, up-to-put, most-from, bestChoice-best, best-of}
 
 -- of two choices that differ at a position, one has it inside

@@ -1,7 +1,7 @@
 -- Weights that break every tie of up to 32 points: with them the best choice is the preferred one. A method of finding it, which no
 -- statement about best choices needs. Assumes nothing.
-use mathlib.Core.Path.{_≡_, refl, sym, _∙_}
-use mathlib.Core.Bool.{true, false, cond}
+use mathlib.Core.Path.{_≡_, refl}
+use mathlib.Core.Bool.{true, false}
 use Prim.Native.Nat.{ℕ, zero, suc, _+_, _*_, _-_, _/_, _^_, _≤_, _<_}
 use lib.Dec.{ltb, eqb}
 use borrow.Author.Tests.{ltb-true, ltb-false, eqb-true}
@@ -26,7 +26,7 @@ two-pos : (k : ℕ) → 1 ≤ 2 ^ k
 two-pos zero = omega arith
 two-pos (suc k) = let ih = two-pos k in omega arith
 
-pub tie-pos : (i : ℕ) → 1 ≤ tieBreak i
+tie-pos : (i : ℕ) → 1 ≤ tieBreak i
 unfolding tieBreak
 tie-pos i = two-pos (31 - i)
 
@@ -35,7 +35,7 @@ unfolding tieBreak
 tie-first = refl
 
 -- each position adds half of what the one before it adds
-pub tie-half : (i : ℕ) → i < 31 → tieBreak i ≡ tieBreak (suc i) + tieBreak (suc i)
+tie-half : (i : ℕ) → i < 31 → tieBreak i ≡ tieBreak (suc i) + tieBreak (suc i)
 unfolding tieBreak
 tie-half i l = let e : 31 - i ≡ suc (31 - suc i) = omega arith in rw e (omega arith)
 
@@ -123,7 +123,8 @@ module _ (P : Points) (v : ℕ → ℕ) (few : P .n ≤ 32) (S : Choice) (b : Be
       last : (m : ℕ) → 1 ≤ m → m ≡ suc (m - 1)
       last m l = omega arith
 
-      more : (R : Choice) → Best P v R → (i : ℕ) → i < P .n → ((j : ℕ) → j < i → S j ≡ R j) → R i ≡ true → S i ≡ false → ⊥
+      more : (R : Choice) → Best P v R → (i : ℕ) → i < P .n → ((j : ℕ) → j < i → S j ≡ R j) → R i ≡ true → S i ≡ false
+          → ⊥
       more R r i l a t e =
           let q : P .n ≡ suc (P .n - 1) = last (P .n) (omega arith) in
           let g = tie-more S R i (P .n - 1) a e t (omega arith) (omega arith) in

@@ -76,8 +76,8 @@ fn two_lists(n: u8, heights: &PointArray, choice: &[u8; 32]) -> BestChoice
     }
 }
 
-// Sets the flags of the inside points of the best choice, and gives one more than its weight, or 0 where no choice is without conflicts. The
-// table is in the workspace.
+// Sets the flags of the inside points of the best choice, and gives one more than its weight, or 0 where no choice is without conflicts.
+// The table is in the workspace.
 fn solve(heights: &PointArray, workspace: &mut [u16], flags: &mut Flags) -> u64
     requires { ⌜ Packed (now heights) × Room (now workspace) × Blank (now flags) ⌝ }
     ensures { λ r. ⌜ Solved (heightsOf (now (heights .entry))) (now (flags .exit)) r

@@ -1,4 +1,4 @@
-// Recovering a best choice from the table: a slab's open points are put inside down to the point that it is cut at.
+// Recovering the best choice from the table: a slab's open points are put inside down to the point that it is cut at.
 ghost use mathlib.Core.Path.{_≡_};
 ghost use Prim.Native.Nat.{_<_};
 ghost use lib.ListN.{length};

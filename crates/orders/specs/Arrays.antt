@@ -1,4 +1,4 @@
--- The array that a best choice is made from: every field of the points in height order, one after the other (Layout.antt). Assumes
+-- The array that the best choice is made from: every field of the points in height order, one after the other (Layout.antt). Assumes
 -- nothing.
 use mathlib.Core.List.{List}
 use Prim.Native.Nat.{ℕ, _+_}

@@ -30,7 +30,7 @@ permission b = cond b 1 0
 
 -- LAWS, which are all that is used of the weights and the permissions
 
--- A best choice by these weights is the preferred one by count.
+-- They break ties (labeling's TieBreak.antt): a best choice by them is the preferred one by count.
 pub weight-breaks : (sheet : List ℕ) → weightOf sheet ≡ tieBroken oneEach
 unfolding weightOf
 weight-breaks sheet = refl

@@ -1,4 +1,4 @@
--- The layout of the array that a best choice is made from: where each field starts. A field has a cell for each of the boundaries 0 and
+-- The layout of the array that the best choice is made from: where each field starts. A field has a cell for each of the boundaries 0 and
 -- n + 1 and for up to 32 points between them; the first point's is the cell after the field's start. The columns stand first, from cell 0
 -- on. A weight has four cells, so its place is a fourth of its first cell (Words.antt). Assumes nothing.
 use Prim.Native.Nat.{ℕ}

@@ -1,4 +1,4 @@
-// The layout of the array that a best choice is made from: specs/Layout.antt, name for name.
+// The layout of the array that the best choice is made from: specs/Layout.antt, name for name.
 
 pub const FIELD_CELLS: usize = 34;
 

@@ -1,4 +1,4 @@
-// The points of a sheet in both orders, in the array that a best choice is made from.
+// The points of a sheet in both orders, in the array that the best choice is made from.
 ghost use mathlib.Core.Path.{_≡_};
 ghost use Rattle.format.specs.Sheet.{sheetNo};
 ghost use Rattle.orders.specs.BothOrders.{BothOrders};

@@ -81,6 +81,14 @@ sheetOfFive = sheet 4 3 5 (at 1 11 2 (at 2 8 6 (at 3 6 5 (at 4 5 4 (at 5 10 0 []
 abbrev pub ridge : ℕ → ℕ → List ℕ
 ridge c d = sheet 4 2 2 (at 1 c 3 (at 2 d 3 []))
 
+-- Label 4 by 2, points (11,9), (4,3), (12,8), (3,4).
+abbrev fourBest : List ℕ
+fourBest = sheet 4 2 4 (at 1 11 9 (at 2 4 3 (at 3 12 8 (at 4 3 4 []))))
+
+-- Label 4 by 2, points (8,2), (9,1), (7,3), (6,4).
+abbrev stairs : List ℕ
+stairs = sheet 4 2 4 (at 1 8 2 (at 2 9 1 (at 3 7 3 (at 4 6 4 []))))
+
 abbrev pub cases : List Case
 cases =
     -- P1: "The plate adds 02 01 02 01 00 00."
@@ -119,19 +127,26 @@ cases =
     -- P5 twice: of (12,8) and (11,9) one is inside, and of (4,3) and (3,4), so there are four best choices. The first two of the sheet are
     -- preferred; by height, from below or from above, or by column it would be another pair
     record {
-      sheet = sheet 4 2 4 (at 1 11 9 (at 2 4 3 (at 3 12 8 (at 4 3 4 []))));
+      sheet = fourBest;
       inside = 0 ∷ 1 ∷ [];
       expected = made;
       added = 2 ∷ 0 ∷ 1 ∷ 2 ∷ 2 ∷ 0 ∷ 3 ∷ 0 ∷ [];
     } ∷
+    -- the three others
+    record { sheet = fourBest; inside = 0 ∷ 3 ∷ []; expected = valid; added = 2 ∷ 0 ∷ 3 ∷ 2 ∷ 2 ∷ 0 ∷ 1 ∷ 0 ∷ [] } ∷
+    record { sheet = fourBest; inside = 1 ∷ 2 ∷ []; expected = valid; added = 2 ∷ 1 ∷ 2 ∷ 2 ∷ 0 ∷ 0 ∷ 3 ∷ 0 ∷ [] } ∷
+    record { sheet = fourBest; inside = 2 ∷ 3 ∷ []; expected = valid; added = 2 ∷ 2 ∷ 3 ∷ 2 ∷ 0 ∷ 0 ∷ 1 ∷ 0 ∷ [] } ∷
     -- stairs, (9,1), (8,2), (7,3), (6,4), of which no two neighbours can be inside: (9,1) with (7,3), (9,1) with (6,4) and (8,2) with (6,4)
     -- are best. In this sheet the last two differ first at (8,2), which is preferred, and last at (9,1)
     record {
-      sheet = sheet 4 2 4 (at 1 8 2 (at 2 9 1 (at 3 7 3 (at 4 6 4 []))));
+      sheet = stairs;
       inside = 0 ∷ 3 ∷ [];
       expected = made;
       added = 2 ∷ 0 ∷ 3 ∷ 2 ∷ 2 ∷ 0 ∷ 1 ∷ 1 ∷ [];
     } ∷
+    -- the two others
+    record { sheet = stairs; inside = 1 ∷ 3 ∷ []; expected = valid; added = 2 ∷ 1 ∷ 3 ∷ 2 ∷ 2 ∷ 0 ∷ 0 ∷ 1 ∷ [] } ∷
+    record { sheet = stairs; inside = 1 ∷ 2 ∷ []; expected = valid; added = 2 ∷ 1 ∷ 2 ∷ 2 ∷ 3 ∷ 0 ∷ 0 ∷ 1 ∷ [] } ∷
     -- P6: "the second at (4,4): a clash"
     record {
       sheet = sheet 4 2 2 (at 1 4 3 (at 2 4 4 []));

@@ -17,7 +17,7 @@ ghost use Rattle.print_plate.specs.PrintedText.{printedText, textRoom};
 // Room for the listing of 32 points, 24 + 16 · 32 bytes.
 const TEXT_ROOM: usize = 536;
 
-// Makes a plate of the sheet and writes its listing into the text, or the line of its refusal: the length of what it writes.
+// Makes the best plate of the sheet and writes its listing into the text, or the line of its refusal: the length of what it writes.
 fn put_text(sheet: &[u8], text: &mut [u8]) -> usize
     requires { ⌜ textRoom ≤ length (now text) ⌝ }
     ensures { λ r. ⌜ (r ≤ length (now (text .exit))) × (take r (now (text .exit)) ≡ printedText (now (sheet .entry))) ⌝ }

@@ -2,6 +2,7 @@
 
 mod desks;
 mod listings;
+mod makings;
 mod refusals;
 mod saved;
 mod slices;

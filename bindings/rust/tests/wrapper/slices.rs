@@ -1,7 +1,7 @@
 //! What the library is lent: empty slices, and slices at any place in a buffer.
 
 use crate::{load, number, P3};
-use plates::{check_sheet, listing, make, read_plate, Desk, LISTING, OUTPUT, WORKSPACE};
+use plates::{check_sheet, listing, make, read_plate, Desk, LISTING, WORKSPACE};
 
 /// P3 with both points inside adds these bytes.
 const PLATE: [u8; 4] = [2, 0, 1, 0];
@@ -35,20 +35,6 @@ fn empty_ends() {
     assert_eq!(number(read_plate(end)), 11);
     assert_eq!(listing(end, &mut [0; 12]), Some("plate 0 0 0\n"));
     assert_eq!(number(Desk::new().mark(end).1), 51);
-}
-
-/// Document 01's tie, (4,3) and (3,4), and the two exchanged: one of them can be
-/// inside, and it is the sheet's first, document 02 (d).
-#[test]
-fn a_tie() {
-    for [first, second] in [[(4, 3), (3, 4)], [(3, 4), (4, 3)]] {
-        let mut sheet = vec![1, 20, 0, 12, 0, 4, 0, 2, 0, 2];
-        sheet.extend([1, 0, first.0, 0, first.1, 0]);
-        sheet.extend([2, 0, second.0, 0, second.1, 0]);
-        let (mut output, mut workspace) = ([0; OUTPUT], vec![0; WORKSPACE]);
-        assert_eq!(make(&sheet, &mut output, &mut workspace), Ok(27));
-        assert_eq!(output[22..27], [1, 0, 1, 1, 0]);
-    }
 }
 
 /// Odd and even addresses, neighbours before and after every slice.

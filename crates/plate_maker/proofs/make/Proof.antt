@@ -51,7 +51,8 @@ write-best-requires c κs =
     let choice = c .before .before .before .before .before in
     let none = c .before .if1 .left in
     let f = none-making _ _ _ .is (sym (first-no choice) ∙ none) in
-    (none-sheet _ .of (f .0 .0), chosen-split (sheet-of choice) (chosen-no-of choice) _ (choice .best-choice .ensures .answer) none, f .0 .1 .0)
+    let split = chosen-split (sheet-of choice) (chosen-no-of choice) _ (choice .best-choice .ensures .answer) none in
+    (none-sheet _ .of (f .0 .0), split, f .0 .1 .0)
 
 same-length-2 : tie.Need-same-length-2
 same-length-2 c = search needs

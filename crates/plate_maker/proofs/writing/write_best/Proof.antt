@@ -68,7 +68,10 @@ returns c =
     let start = c .before .before .before .before .before .before .before .before .before .before .before .before .before .before in
     let b = start .pre .1 in
     let plate = c .before .before .write-plate .ensures in
-    choice-written (sheet-of start) (choice-of start) _ _ _ _ _ (inside-listed (sheet-of start) (choice-of start) _ b) (outside-listed (sheet-of start) (choice-of start) _ b) (plate .0) (plate .1)
+    choice-written (sheet-of start) (choice-of start) _ _ _ _ _
+    (inside-listed (sheet-of start) (choice-of start) _ b)
+    (outside-listed (sheet-of start) (choice-of start) _ b)
+    (plate .0) (plate .1)
 
 pub write-best-spec : {M : Type 1} → statement M
 write-best-spec =
