@@ -11,8 +11,8 @@ use Rattle.labeling.specs.Marks.{Valid}
 use Rattle.labeling.specs.Conflicts.{validB}
 use Rattle.labeling.specs.Decide.{decide, same, Decides, dec-lt, dec-map}
 use Rattle.labeling.specs.Pixels.{dec-valid, nothing-inside}
-use Rattle.labeling.specs.Best.{weight, count, oneEach, Best, Agree, put, bestFrom, best, Feasible, feasibleB, bestCount}
-use Rattle.labeling.specs.Best.{bestChoiceFrom, bestChoice}
+use Rattle.labeling.specs.Best.{weight, count, oneEach, Best, Agree, put, bestFrom, best, Feasible, feasibleB}
+use Rattle.labeling.specs.Best.{bestSum, bestCount, bestChoiceFrom, bestChoice}
 use Rattle.labeling.specs.Agree.{valid-agree, weight-agree}
 
 pub put-at : (S : Choice) (k : ℕ) (b : Bool) → put S k b k ≡ b
@@ -133,21 +133,30 @@ dec-feasible P pos = dec-map (best-feasible P oneEach pos) (feasible-best P oneE
 pub distinct-feasible : (P : Points) → DistinctRows P → Feasible P
 distinct-feasible P d = (λ i. false, nothing-inside P d)
 
--- the count of a best choice is the best count
-pub best-counts : (P : Points) (S : Choice) → 1 ≤ P .w → Best P oneEach S → count P S ≡ bestCount P
-unfolding count bestCount
-best-counts P S pos b = rw (best-of P oneEach S pos b) (omega arith)
+-- the weight of a best choice is the best sum
+pub best-sums : (P : Points) (v : ℕ → ℕ) (S : Choice) → 1 ≤ P .w → Best P v S → weight P v S ≡ bestSum P v
+unfolding bestSum
+best-sums P v S pos b = rw (best-of P v S pos b) (omega arith)
 
--- no valid choice has a greater count than the best count
-pub best-count-most : (P : Points) (R : Choice) → 1 ≤ P .w → Valid P R → count P R ≤ bestCount P
-unfolding count bestCount
-best-count-most P R pos ok = below (best P oneEach) (best-most P oneEach R pos ok)
+-- no valid choice weighs more than the best sum
+pub best-sum-most : (P : Points) (v : ℕ → ℕ) (R : Choice) → 1 ≤ P .w → Valid P R → weight P v R ≤ bestSum P v
+unfolding bestSum
+best-sum-most P v R pos ok = below (best P v) (best-most P v R pos ok)
   where
-    below : (t : ℕ) → weight P oneEach R < t → weight P oneEach R ≤ pred t
+    below : (t : ℕ) → weight P v R < t → weight P v R ≤ pred t
     below t l = omega arith
 
--- THE BEST COUNT IS THE GREATEST: where some choice is valid, a valid choice has it
+-- THE BEST SUM IS THE GREATEST: where some choice is valid, a valid choice has it
+pub best-sum-reached : (P : Points) (v : ℕ → ℕ) → 1 ≤ P .w → Feasible P → (S : Choice) × Valid P S × (weight P v S ≡ bestSum P v)
+best-sum-reached P v pos f =
+    let b = bestChoice-best P v pos (feasible-best P v pos f) in
+    (bestChoice P v, b .valid, best-sums P v (bestChoice P v) pos b)
+
+-- THE BEST COUNT IS THE GREATEST COUNT: the case where each position weighs 1
+pub best-count-most : (P : Points) (R : Choice) → 1 ≤ P .w → Valid P R → count P R ≤ bestCount P
+unfolding count bestCount
+best-count-most P R pos ok = best-sum-most P oneEach R pos ok
+
 pub best-count-reached : (P : Points) → 1 ≤ P .w → Feasible P → (S : Choice) × Valid P S × (count P S ≡ bestCount P)
-best-count-reached P pos f =
-    let b = bestChoice-best P oneEach pos (feasible-best P oneEach pos f) in
-    (bestChoice P oneEach, b .valid, best-counts P (bestChoice P oneEach) pos b)
+unfolding count bestCount
+best-count-reached P pos f = best-sum-reached P oneEach pos f

@@ -24,10 +24,11 @@ pub mod Positions
 pub mod Safe
 pub mod Comparisons
 pub mod TieBreak
--- BOOKKEEPING: cases and tests; choices that agree; the halves of the optimum's proof, step by step.
+-- BOOKKEEPING: cases and tests; choices and weights that agree; the halves of the optimum's proof, step by step.
 pub mod Decide
 pub mod Tests
 pub mod Agree
+pub mod SameWeights
 pub mod RecurrenceTests
 pub mod Joins
 pub mod Slabs

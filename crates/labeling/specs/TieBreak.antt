@@ -26,7 +26,7 @@ two-pos : (k : ℕ) → 1 ≤ 2 ^ k
 two-pos zero = omega arith
 two-pos (suc k) = let ih = two-pos k in omega arith
 
-tie-pos : (i : ℕ) → 1 ≤ tieBreak i
+pub tie-pos : (i : ℕ) → 1 ≤ tieBreak i
 unfolding tieBreak
 tie-pos i = two-pos (31 - i)
 
