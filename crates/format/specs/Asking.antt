@@ -95,10 +95,17 @@ none-after {first} {later} a b = record {
 pub none-then : {first later : ℕ} {A B : Type 0} → NoneOf first A → NoneOf later B → NoneOf (thenNo first later) (A × B)
 none-then a b = none-after a (λ x. b)
 
--- NO NUMBER IS ABOVE m
+-- WHAT EACH NUMBER HAS, the first no has
 
+pub ask-has : (A : ℕ → Type 0) (b : Bool) (k after : ℕ) → A k → A after → A (ask b k after)
+ask-has A b k after x y = decide b (λ e. rw e y) (λ e. rw e x)
+
+pub then-has : (A : ℕ → Type 0) (first later : ℕ) → A first → A later → A (thenNo first later)
+then-has A first later x y = decide (eqb first 0) (λ e. rw e y) (λ e. rw e x)
+
+-- so none is above m, where none of theirs is
 pub ask-most : (b : Bool) (m k after : ℕ) → k ≤ m → after ≤ m → ask b k after ≤ m
-ask-most b m k after x y = decide b (λ e. rw e y) (λ e. rw e x)
+ask-most b m k after x y = ask-has (λ z. z ≤ m) b k after x y
 
 pub then-most : (m first later : ℕ) → first ≤ m → later ≤ m → thenNo first later ≤ m
-then-most m first later x y = decide (eqb first 0) (λ e. rw e y) (λ e. rw e x)
+then-most m first later x y = then-has (λ z. z ≤ m) first later x y

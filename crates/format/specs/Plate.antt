@@ -1,12 +1,14 @@
--- The plate of a sheet and a choice, as bytes (document 01, "Sheet and plate as bytes"), and the best plate of a sheet (document 02 (d)).
--- Assumes nothing.
+-- The plate of a sheet and a choice, as bytes (document 01, "Sheet and plate as bytes"), and the best plate of a sheet and a rank list, if
+-- one is lent (document 02 (d) and (e)). Assumes nothing.
 use mathlib.Core.Bool.{cond}
 use mathlib.Core.List.{List, [], _∷_, _++_}
+use mathlib.Core.Option.{Option}
 use Prim.Native.Nat.{ℕ, zero, suc}
 use lib.ListN.{length}
 use Rattle.labeling.specs.Points.{Choice, Placed, outside, placed, among}
-use Rattle.labeling.specs.Best.{oneEach, bestChoice}
+use Rattle.labeling.specs.Best.{bestChoice}
 use Rattle.format.specs.Sheet.{pointCount, pointsOf}
+use Rattle.format.specs.RankList.{rankIn}
 
 -- The choice with just the listed positions inside.
 abbrev pub choiceOf : List ℕ → Choice
@@ -36,10 +38,11 @@ outsideSection s S = let l = outside (pointsOf s) S in length l ∷ pairs (place
 unfoldable pub plateOf : List ℕ → Choice → List ℕ
 plateOf s S = s ++ insideSection s S ++ outsideSection s S
 
--- The best choice of a sheet: of those with the best count the preferred one (document 02 (d); labeling's Best.antt has the sentence).
-abbrev pub bestChoiceOf : List ℕ → Choice
-bestChoiceOf s = bestChoice (pointsOf s) oneEach
+-- "The best choice is then the valid one with the greatest sum of ranks inside, with ties as in the preceding request" (document 02 (e)): of
+-- those the preferred one (labeling's Best.antt has the sentence).
+abbrev pub bestChoiceOf : List ℕ → Option (List ℕ) → Choice
+bestChoiceOf s r = bestChoice (pointsOf s) (rankIn r)
 
--- "the returned plate is fixed for each sheet" (document 02 (d)): that of its best choice.
-unfoldable pub bestPlate : List ℕ → List ℕ
-bestPlate s = plateOf s (bestChoiceOf s)
+-- "the returned plate is fixed for each sheet" (document 02 (d)), and rank list: that of their best choice.
+unfoldable pub bestPlate : List ℕ → Option (List ℕ) → List ℕ
+bestPlate s r = plateOf s (bestChoiceOf s r)

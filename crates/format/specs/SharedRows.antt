@@ -4,6 +4,7 @@ use mathlib.Core.Path.{_≡_, refl, sym, _∙_}
 use mathlib.Core.Bool.{Bool}
 use mathlib.Core.Logic.{_↔_}
 use mathlib.Core.List.{List}
+use mathlib.Core.Option.{Option, none, some}
 use Prim.Native.Nat.{ℕ, zero, suc, _≤_, _<_}
 use lib.Dec.{leb, eqb}
 use lib.ListN.{length}
@@ -18,9 +19,10 @@ use Rattle.format.specs.Sheet.{frameCount, mapWidth, mapHeight, labelWid
 use Rattle.format.specs.Sheet.{pointsOf, ask, thenNo, upTo, bothUpTo, onMap, sameCall, samePixel, unlikeEarlier, pointNo, pointsNo}
 use Rattle.format.specs.Sheet.{questionsNo, sheetNo, plateSheetNo}
 use Rattle.format.specs.Accepted.{Accepted, SamePixel, none-sheet, dec-unlike}
-use Rattle.format.specs.Asking.{ask-most, then-most, none-then}
-use Rattle.format.specs.MakingQuestions.{workspaceNo, askedNo, outputFits, choiceNo, choosingNo, makingNo, loadNo}
-use Rattle.format.specs.MakingQuestions.{none-workspace, none-asked, none-choice}
+use Rattle.format.specs.Asking.{ask-has, then-has, ask-most, then-most}
+use Rattle.format.specs.RankList.{rankCountRight, ranksAllowed, ranksNo}
+use Rattle.format.specs.MakingQuestions.{workspaceNo, roomNo, askedNo, outputFits, choiceNo, choosingNo, makingNo, loadAskedNo}
+use Rattle.format.specs.MakingQuestions.{loadNo, none-asked, none-choice, none-load-asked}
 
 -- "THE SHEET'S QUESTIONS" have the numbers 11 to 20, so check_sheet never answers 61
 
@@ -58,18 +60,36 @@ plate-sheet-most p = questions-most p _
 workspace-most : (cells : ℕ) → workspaceNo cells ≤ 22
 workspace-most cells = ask-most (leb workspaceCells cells) 22 22 0 (omega arith) (omega arith)
 
-pub asked-most : (s : List ℕ) (fits : Bool) (cells : ℕ) → askedNo s fits cells ≤ 22
-unfolding askedNo
-asked-most s fits cells =
+room-most : (s : List ℕ) (fits : Bool) (cells : ℕ) → roomNo s fits cells ≤ 22
+unfolding roomNo
+room-most s fits cells =
     then-most 22 (sheetNo s) _ (omega (arith, sheet-most s)) (ask-most fits 22 21 _ (omega arith) (workspace-most cells))
 
-load-asked-most : (s : List ℕ) (cells : ℕ) → thenNo (sheetNo s) (workspaceNo cells) ≤ 22
-load-asked-most s cells = then-most 22 (sheetNo s) _ (omega (arith, sheet-most s)) (workspace-most cells)
+-- nor has the rank list's question the number 61
+abbrev Other : ℕ → Type 0
+Other k = k ≡ 61 → ⊥
+
+ranks-other : (n : ℕ) (r : Option (List ℕ)) → Other (ranksNo n r)
+unfolding ranksNo
+ranks-other n none = λ e. omega arith
+ranks-other n (some r) =
+    ask-has Other (rankCountRight n r) 62 _ (λ e. omega arith) (ask-has Other (ranksAllowed n r) 63 0 (λ e. omega arith) (λ e. omega arith))
+
+pub asked-other : (s : List ℕ) (r : Option (List ℕ)) (fits : Bool) (cells : ℕ) → askedNo s r fits cells ≡ 61 → ⊥
+unfolding askedNo
+asked-other s r fits cells = then-has Other (roomNo s fits cells) _ (λ e. omega (arith, room-most s fits cells)) (ranks-other _ r)
+
+load-asked-other : (s : List ℕ) (r : Option (List ℕ)) (cells : ℕ) → loadAskedNo s r cells ≡ 61 → ⊥
+unfolding loadAskedNo
+load-asked-other s r cells =
+    then-has Other (thenNo (sheetNo s) (workspaceNo cells)) _
+    (λ e. omega (arith, then-most 22 (sheetNo s) _ (omega (arith, sheet-most s)) (workspace-most cells)))
+    (ranks-other _ r)
 
 -- 61 EXACTLY IF NO CHOICE IS VALID
 
--- of questions with numbers below 61, which accept the sheet s, and then 61
-module _ (s : List ℕ) (before : ℕ) (low : before ≤ 22) (sheet : before ≡ 0 → Accepted s) where
+-- of questions with other numbers, which accept the sheet s, and then 61
+module _ (s : List ℕ) (before : ℕ) (other : before ≡ 61 → ⊥) (sheet : before ≡ 0 → Accepted s) where
   sixty-one : (thenNo before (choiceNo s) ≡ 61) ↔ ((before ≡ 0) × (Feasible (pointsOf s) → ⊥))
   sixty-one = (
     λ e. same before 0
@@ -77,23 +97,22 @@ module _ (s : List ℕ) (before : ℕ) (low : before ≤ 22) (sheet : before ≡
           z,
           λ f. (let y : thenNo before (choiceNo s) ≡ 0 = rw (eq-eqb before 0 z) (none-choice s (sheet z) .of (f, tt)) in omega arith),
         ))
-        (λ ne. let y : thenNo before (choiceNo s) ≡ before = rw (ne-eqb before 0 ne) in absurd (omega (arith, low))),
+        (λ ne. let y : thenNo before (choiceNo s) ≡ before = rw (ne-eqb before 0 ne) in absurd (other (sym y ∙ e))),
     λ a. decide (feasibleB (pointsOf s))
         (λ t. absurd (a .1 (dec-feasible (pointsOf s) (sheet (a .0) .proper .label-width .0) .is t)))
         (λ t. rw (eq-eqb before 0 (a .0), t)),
   )
 
-pub making-61 : (s : List ℕ) (room cells : ℕ)
-    → (makingNo s room cells ≡ 61) ↔ ((askedNo s (outputFits s room) cells ≡ 0) × (Feasible (pointsOf s) → ⊥))
+pub making-61 : (s : List ℕ) (r : Option (List ℕ)) (room cells : ℕ)
+    → (makingNo s r room cells ≡ 61) ↔ ((askedNo s r (outputFits s room) cells ≡ 0) × (Feasible (pointsOf s) → ⊥))
 unfolding makingNo choosingNo
-making-61 s room cells = sixty-one s (askedNo s (outputFits s room) cells) (asked-most s _ cells) (λ z. none-asked s _ cells .is z .0)
+making-61 s r room cells =
+    sixty-one s (askedNo s r (outputFits s room) cells) (asked-other s r _ cells) (λ z. none-asked s r _ cells .is z .0 .0)
 
-pub load-61 : (s : List ℕ) (cells : ℕ)
-    → (loadNo s cells ≡ 61) ↔ ((thenNo (sheetNo s) (workspaceNo cells) ≡ 0) × (Feasible (pointsOf s) → ⊥))
+pub load-61 : (s : List ℕ) (r : Option (List ℕ)) (cells : ℕ)
+    → (loadNo s r cells ≡ 61) ↔ ((loadAskedNo s r cells ≡ 0) × (Feasible (pointsOf s) → ⊥))
 unfolding loadNo
-load-61 s cells =
-    sixty-one s (thenNo (sheetNo s) (workspaceNo cells)) (load-asked-most s cells)
-    (λ z. none-then (none-sheet s) (none-workspace cells) .is z .0)
+load-61 s r cells = sixty-one s (loadAskedNo s r cells) (load-asked-other s r cells) (λ z. none-load-asked s r cells .is z .0 .0)
 
 -- "SHEETS WITH DISTINCT ROWS GET THE ANSWERS THEY HAD"
 
@@ -119,8 +138,8 @@ pointsNoByRow s (suc m) = thenNo (pointsNoByRow s m) (pointNoByRow s m)
 -- 61 never comes, so that a making and a load have the number of the questions before it.
 pub record AnswersKept (s : List ℕ) : Type 0 where
   pub points : pointsNo s (pointCount s) ≡ pointsNoByRow s (pointCount s)
-  pub making : (room cells : ℕ) → makingNo s room cells ≡ askedNo s (outputFits s room) cells
-  pub loading : (cells : ℕ) → loadNo s cells ≡ thenNo (sheetNo s) (workspaceNo cells)
+  pub making : (r : Option (List ℕ)) (room cells : ℕ) → makingNo s r room cells ≡ askedNo s r (outputFits s room) cells
+  pub loading : (r : Option (List ℕ)) (cells : ℕ) → loadNo s r cells ≡ loadAskedNo s r cells
 
 -- no question 61
 module _ (s : List ℕ) (d : DistinctRows (pointsOf s)) (before : ℕ) (sheet : before ≡ 0 → Accepted s) where
@@ -152,7 +171,7 @@ pub distinct-rows-answers : (s : List ℕ) → DistinctRows (pointsOf s) → Ans
 unfolding makingNo choosingNo loadNo
 distinct-rows-answers s d = record {
   points = points-same s d (pointCount s) (omega arith);
-  making = λ room cells. never-61 s d (askedNo s (outputFits s room) cells) (λ z. none-asked s _ cells .is z .0);
-  loading = λ cells.
-      never-61 s d (thenNo (sheetNo s) (workspaceNo cells)) (λ z. none-then (none-sheet s) (none-workspace cells) .is z .0);
+  making = λ r room cells.
+      never-61 s d (askedNo s r (outputFits s room) cells) (λ z. none-asked s r _ cells .is z .0 .0);
+  loading = λ r cells. never-61 s d (loadAskedNo s r cells) (λ z. none-load-asked s r cells .is z .0 .0);
 }

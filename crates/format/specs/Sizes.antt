@@ -1,6 +1,10 @@
 -- The sizes of document 01 that come from its limit of 32 points. Assumes nothing.
 use Prim.Native.Nat.{ℕ}
 
+-- "n is 0 to 32": the most points of a sheet.
+abbrev pub mostPoints : ℕ
+mostPoints = 32
+
 -- The bytes of the largest sheet: 10 + 6 · 32.
 abbrev pub sheetRoom : ℕ
 sheetRoom = 202

@@ -23,6 +23,9 @@ mod writing;
 
 pub use writing::copy_to;
 
+// The most points of a sheet.
+pub const MOST_POINTS: usize = 32;
+
 // The bytes of the largest sheet, 10 + 6 · 32.
 pub const SHEET_ROOM: usize = 202;
 
