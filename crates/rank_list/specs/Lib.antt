@@ -1,0 +1,2 @@
+-- CASES: rank lists with the number of their first no.
+pub mod RankCases
