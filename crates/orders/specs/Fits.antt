@@ -1,13 +1,17 @@
--- An accepted sheet fits the array. Assumes nothing.
+-- An accepted sheet and a right rank list, or none, fit the array. Assumes nothing.
 use mathlib.Core.Path.{_≡_}
 use mathlib.Core.List.{List}
+use mathlib.Core.Option.{Option}
+use Prim.Native.Nat.{ℕ}
 use native.Mathlib.Omega.{arith}
-use Rattle.format.specs.Sheet.{sheetNo}
+use Rattle.format.specs.Sheet.{sheetNo, pointCount}
+use Rattle.format.specs.RankList.{rankIn, ranksNo}
+use Rattle.format.specs.RightRanks.{none-ranks, ranks-up-to}
 use Rattle.format.specs.Accepted.{accepted}
 use Rattle.orders.specs.HeightOrder.{Fit}
 
-pub accepted-fits : (s : List Prim.Native.Nat.ℕ) → sheetNo s ≡ 0 → Fit s
-accepted-fits s e =
+pub accepted-fits : (s : List ℕ) (l : Option (List ℕ)) → sheetNo s ≡ 0 → ranksNo (pointCount s) l ≡ 0 → Fit (rankIn l) s
+accepted-fits s l e q =
     let p = accepted s e .proper in
     record {
       few = p .few;
@@ -16,4 +20,5 @@ accepted-fits s e =
       column-below = λ i l. omega (arith, p .on-map i l, p .map-width);
       row-below = λ i l. omega (arith, p .on-map i l, p .map-height);
       pixels-apart = p .pixels .apart;
+      ranks-most = λ i b. ranks-up-to (pointCount s) l (none-ranks (pointCount s) l .is q) i b .1;
     }

@@ -1,4 +1,4 @@
--- What is given of each position beside its place: its weight, and whether it may be inside. Assumes nothing.
+-- What is given of each position beside its place: its weight by its rank (document 02 (e)), and whether it may be inside. Assumes nothing.
 use mathlib.Core.Path.{_≡_, refl}
 use mathlib.Core.Bool.{Bool, true, false, cond}
 use mathlib.Core.List.{List}
@@ -7,18 +7,17 @@ use lib.Dec.{eqb}
 use native.Mathlib.Omega.{arith}
 use Rattle.labeling.specs.Marks.{labelOnMapB}
 use Rattle.labeling.specs.Tests.{dec-label-on-map}
-use Rattle.labeling.specs.Best.{oneEach}
-use Rattle.labeling.specs.TieBreak.{tieBroken, tie-most}
+use Rattle.labeling.specs.TieBreak.{tieBroken, tie-pos, tie-most}
 use Rattle.labeling.specs.Positions.{Permits}
 use Rattle.format.specs.Sheet.{pointsOf}
 
--- The weight of position p of a sheet: each weighs the same, but that ties are broken in sheet order.
-unfoldable pub weightOf : List ℕ → ℕ → ℕ
-weightOf sheet p = tieBroken oneEach p
+-- The weight of position p, where i has the rank `rank i`: it weighs as its rank, but that ties are broken in sheet order.
+unfoldable pub weightOf : (ℕ → ℕ) → ℕ → ℕ
+weightOf rank p = tieBroken rank p
 
--- No position weighs more than this.
+-- No position with a rank up to 9 weighs more than this.
 abbrev pub heaviest : ℕ
-heaviest = 6442450944
+heaviest = 40802189312
 
 -- Position p of a sheet may be inside. Document 02 (a): "an inside label must lie wholly on the map".
 unfoldable pub permitted : List ℕ → ℕ → Bool
@@ -30,18 +29,18 @@ permission b = cond b 1 0
 
 -- LAWS, which are all that is used of the weights and the permissions
 
--- They break ties (labeling's TieBreak.antt): a best choice by them is the preferred one by count.
-pub weight-breaks : (sheet : List ℕ) → weightOf sheet ≡ tieBroken oneEach
+-- They break ties (labeling's TieBreak.antt): a best choice by them is the preferred one by ranks.
+pub weight-breaks : (rank : ℕ → ℕ) → weightOf rank ≡ tieBroken rank
 unfolding weightOf
-weight-breaks sheet = refl
+weight-breaks rank = refl
 
-pub weight-some : (sheet : List ℕ) (p : ℕ) → 1 ≤ weightOf sheet p
+pub weight-some : (rank : ℕ → ℕ) (p : ℕ) → 1 ≤ weightOf rank p
 unfolding weightOf tieBroken
-weight-some sheet p = omega arith
+weight-some rank p = omega (arith, tie-pos p)
 
-pub weight-most : (sheet : List ℕ) (p : ℕ) → weightOf sheet p ≤ heaviest
+pub weight-most : (rank : ℕ → ℕ) (p : ℕ) → rank p ≤ 9 → weightOf rank p ≤ heaviest
 unfolding weightOf tieBroken
-weight-most sheet p = omega (arith, tie-most p)
+weight-most rank p l = omega (arith, tie-most p)
 
 -- The permissions keep no valid choice out, and let no label leave the map.
 pub permits : (sheet : List ℕ) → Permits (pointsOf sheet) (permitted sheet)

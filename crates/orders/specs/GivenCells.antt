@@ -12,17 +12,17 @@ use Rattle.orders.specs.Arrays.{weightAt}
 use Rattle.orders.specs.Given.{weightOf, weight-most, permitted, permission}
 
 -- r is s with the weights and permissions of the points 1 to m, whose positions s has.
-pub record GivenCells (sheet : List ℕ) (m : ℕ) (s r : List ℕ) : Type 0 where
+pub record GivenCells (rank : ℕ → ℕ) (sheet : List ℕ) (m : ℕ) (s r : List ℕ) : Type 0 where
   pub long : length r ≡ length s
-  pub weight-is : (k : ℕ) → k < m → weightAt r (suc k) ≡ weightOf sheet (getD s (firstPosition + k) 0)
+  pub weight-is : (k : ℕ) → k < m → weightAt r (suc k) ≡ weightOf rank (getD s (firstPosition + k) 0)
   pub weight-small : (k : ℕ) → k < m → FourSmall r ((firstWeight + k) * 4)
   pub allowed-is : (k : ℕ) → k < m → getD r (firstAllowed + k) 0 ≡ permission (permitted sheet (getD s (firstPosition + k) 0))
   pub other : (c : ℕ) → (firstWeight * 4 ≤ c → c < firstWeight * 4 + m * 4 → ⊥) → (firstAllowed ≤ c → c < firstAllowed + m → ⊥)
       → getD r c 0 ≡ getD s c 0
 
 -- At first nothing is written.
-pub given-none : (sheet s : List ℕ) → GivenCells sheet 0 s s
-given-none sheet s = record {
+pub given-none : (rank : ℕ → ℕ) (sheet s : List ℕ) → GivenCells rank sheet 0 s s
+given-none rank sheet s = record {
   long = refl;
   weight-is = λ k l. absurd (omega arith);
   weight-small = λ k l. absurd (omega arith);
@@ -31,7 +31,8 @@ given-none sheet s = record {
 }
 
 -- One more: the weight x and the permission v of the point m + 1.
-module _ {sheet s r : List ℕ} {m : ℕ} (G : GivenCells sheet m s r) (long : length s ≡ arrayCells) (few : m < 32) (x v : ℕ) where
+module _ {rank : ℕ → ℕ} {sheet s r : List ℕ} {m : ℕ} (G : GivenCells rank sheet m s r) (long : length s ≡ arrayCells) (few : m < 32)
+    (light : rank (getD s (firstPosition + m) 0) ≤ 9) (x v : ℕ) where
   abbrev weighted : List ℕ
   weighted = withValue r (firstWeight + m) x
 
@@ -84,8 +85,8 @@ module _ {sheet s r : List ℕ} {m : ℕ} (G : GivenCells sheet m s r) (long : l
         fourth = omega (arith, f .fourth, at 3 (omega arith));
       }
 
-  pub given-more : x ≡ weightOf sheet (getD s (firstPosition + m) 0) → v ≡ permission (permitted sheet (getD s (firstPosition + m) 0))
-      → GivenCells sheet (m + 1) s given
+  pub given-more : x ≡ weightOf rank (getD s (firstPosition + m) 0) → v ≡ permission (permitted sheet (getD s (firstPosition + m) 0))
+      → GivenCells rank sheet (m + 1) s given
   given-more e f =
       record {
         long = length-set weighted (firstAllowed + m) v ∙ (weighted-long ∙ sym long);
@@ -96,7 +97,7 @@ module _ {sheet s r : List ℕ} {m : ℕ} (G : GivenCells sheet m s r) (long : l
             (λ ne. value-other r (firstWeight + m) (weightField + suc k) x (λ z. ne (omega arith)) ∙ G .weight-is k (omega arith));
         weight-small = λ k l. four ((firstWeight + k) * 4) (omega arith) (same k m
             (λ z. rw z (with-small r (firstWeight + m) x (omega (arith, G .long, long))
-            (omega (arith, weight-most sheet (getD s (firstPosition + m) 0)))))
+            (omega (arith, weight-most rank (getD s (firstPosition + m) 0) light))))
             (λ ne. four-kept k (omega arith)));
         allowed-is = λ k l. same k m
             (λ z. rw z (getD-set-same weighted (firstAllowed + m) v 0 (omega (arith, weighted-long)) ∙ f))

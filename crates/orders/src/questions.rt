@@ -1,9 +1,11 @@
 // The questions before the choice.
 ghost use mathlib.Core.Path.{_≡_};
 ghost use Rattle.format.specs.Sheet.{ask};
-ghost use Rattle.format.specs.MakingQuestions.{workspaceNo, askedNo};
+ghost use Rattle.format.specs.MakingQuestions.{workspaceNo, roomNo, askedNo};
+ghost use Rattle.format.specs.RankList.{lent};
 use format::SheetAnswer;
 use format::WORKSPACE_CELLS;
+use rank_list::ranks_no;
 
 // The first no of 21, which `fits` answers, and 22, 0 for none: the workspace has `cells` numbers.
 fn buffers_no(fits: bool, cells: usize) -> u8
@@ -19,11 +21,22 @@ fn buffers_no(fits: bool, cells: usize) -> u8
 }
 
 // The first no of the sheet's questions, 21 and 22, 0 for none.
-pub(crate) fn asked_no(sheet: &[u8], fits: bool, cells: usize) -> u8
-    ensures { λ r. ⌜ r ≡ askedNo (now (sheet .entry)) fits cells ⌝ }
+fn room_no(sheet: &[u8], fits: bool, cells: usize) -> u8
+    ensures { λ r. ⌜ r ≡ roomNo (now (sheet .entry)) fits cells ⌝ }
 {
     match format::check_sheet(sheet) {
         SheetAnswer::Accepted => buffers_no(fits, cells),
         SheetAnswer::Refused(no) => no,
     }
+}
+
+// The first no of these and the rank list's, 0 for none.
+pub(crate) fn asked_no(sheet: &[u8], ranked: bool, ranks: &[u8], fits: bool, cells: usize) -> u8
+    ensures { λ r. ⌜ r ≡ askedNo (now (sheet .entry)) (lent ranked (now (ranks .entry))) fits cells ⌝ }
+{
+    let no = room_no(sheet, fits, cells);
+    if no != 0 {
+        return no;
+    }
+    ranks_no(ranked, ranks, format::point_count(sheet))
 }

@@ -1,6 +1,7 @@
 -- `orders::ordered_points` meets its contract. Assumes nothing.
 use mathlib.Core.Path.{refl, sym, _∙_}
 use Rattle.format.specs.Accepted.{none-sheet}
+use Rattle.format.specs.RightRanks.{none-ranks}
 use Rattle.format.specs.MakingQuestions.{none-asked}
 use borrow.Author.Needs.{needs}
 use Rattle.orders.proofs.ordered_points.Statement.{statement}
@@ -20,7 +21,9 @@ returns c = record {
 }
 
 both-orders-requires : tie.Need-both-orders-requires
-both-orders-requires c κs = none-sheet _ .of (none-asked _ _ _ .is (sym (c .before .asked-no .ensures) ∙ c .if1 .left) .0)
+both-orders-requires c κs =
+    let a = none-asked _ _ _ _ .is (sym (c .before .asked-no .ensures) ∙ c .if1 .left) in
+    (none-sheet _ .of (a .0 .0), none-ranks _ _ .of (a .1))
 
 returns-2 : tie.Need-returns-2
 returns-2 c = record {
