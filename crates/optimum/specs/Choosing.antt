@@ -2,14 +2,17 @@
 use mathlib.Core.Path.{_≡_, sym, ap, _∙_}
 use mathlib.Core.Bool.{Bool, cond}
 use mathlib.Core.List.{List}
+use mathlib.Core.Option.{Option}
 use Prim.Native.Nat.{ℕ}
 use lib.Dec.{eqb}
 use lib.ListN.{length, replicate}
 use borrow.Author.Tests.{eqb-true}
 use Rattle.labeling.specs.Points.{Choice, outside}
+use Rattle.labeling.specs.Best.{bestChoice}
 use Rattle.labeling.specs.Decide.{decide}
 use Rattle.format.specs.Sheet.{pointCount, pointsOf}
-use Rattle.format.specs.Plate.{insideBelow, bestChoiceOf}
+use Rattle.format.specs.Plate.{insideBelow}
+use Rattle.format.specs.RankList.{rankIn}
 use Rattle.format.specs.Padded.{padded}
 use Rattle.format.specs.MakingQuestions.{choosingNo, workspaceAfter}
 use Rattle.optimum.specs.declared.BestChoice.{BestChoice}
@@ -35,20 +38,21 @@ nothingChosen k = record {
   «outside_count» = 0;
 }
 
--- What is chosen of s where the number of the first no is k: the lists of its best choice, or none.
-abbrev pub chosenOf : List ℕ → ℕ → BestChoice
-chosenOf s k = cond (eqb k 0) (splitOf s (bestChoiceOf s)) (nothingChosen k)
+-- What is chosen of s, where position i has the rank `rank i` and the number of the first no is k: the lists of the best choice, or none.
+abbrev pub chosenOf : List ℕ → (ℕ → ℕ) → ℕ → BestChoice
+chosenOf s rank k = cond (eqb k 0) (splitOf s (bestChoice (pointsOf s) rank)) (nothingChosen k)
 
--- THE PROMISE of best_choice, on any sheet s, any answer `fits` to 21 and any workspace w: what it answers, and the workspace afterwards.
-pub record Choosing (s : List ℕ) (fits : Bool) (w : List ℕ) (r : BestChoice) (w′ : List ℕ) : Type 0 where
-  pub answer : r ≡ chosenOf s (choosingNo s fits (length w))
-  pub workspace : w′ ≡ workspaceAfter (choosingNo s fits (length w)) w
+-- THE PROMISE of best_choice, on any sheet s, any rank list l or none, any answer `fits` to 21 and any workspace w: what it answers, and the
+-- workspace afterwards.
+pub record Choosing (s : List ℕ) (l : Option (List ℕ)) (fits : Bool) (w : List ℕ) (r : BestChoice) (w′ : List ℕ) : Type 0 where
+  pub answer : r ≡ chosenOf s (rankIn l) (choosingNo s l fits (length w))
+  pub workspace : w′ ≡ workspaceAfter (choosingNo s l fits (length w)) w
 
 -- READING AN ANSWER: its number is that of the first no, and where that is 0, the lists are those of the best choice
 
-module _ (s : List ℕ) (k : ℕ) (r : BestChoice) (e : r ≡ chosenOf s k) where
+module _ (s : List ℕ) (rank : ℕ → ℕ) (k : ℕ) (r : BestChoice) (e : r ≡ chosenOf s rank k) where
   pub chosen-no : r .no ≡ k
   chosen-no = decide (eqb k 0) (λ t. rw (e, t) (sym (eqb-true k 0 t))) (λ t. rw (e, t))
 
-  pub chosen-split : r .no ≡ 0 → r ≡ splitOf s (bestChoiceOf s)
-  chosen-split z = e ∙ ap (chosenOf s) (sym chosen-no ∙ z)
+  pub chosen-split : r .no ≡ 0 → r ≡ splitOf s (bestChoice (pointsOf s) rank)
+  chosen-split z = e ∙ ap (chosenOf s rank) (sym chosen-no ∙ z)

@@ -1,6 +1,6 @@
 // Choosing: the best is found on demand, and the choice that attains it is recovered and listed.
 ghost use mathlib.Core.Path.{_≡_};
-ghost use Prim.Native.Nat.{_≤_};
+ghost use Prim.Native.Nat.{ℕ, _≤_};
 ghost use lib.ListN.{length, replicate};
 ghost use Rattle.format.specs.Sheet.{sheetNo};
 ghost use Rattle.format.specs.MakingQuestions.{choiceNo};
@@ -97,10 +97,12 @@ fn solve(heights: &PointArray, workspace: &mut [u16], flags: &mut Flags) -> u64
     best
 }
 
-// The best choice of an accepted sheet, whose points are in order, or 61 where no choice is valid. The workspace is left zero.
+// The best choice of an accepted sheet, whose points are in order, or 61 where no choice is valid. It is the best by whatever ranks the
+// points have their weights from. The workspace is left zero.
 pub(crate) fn chosen(sheet: &[u8], points: PointArray, workspace: &mut [u16]) -> BestChoice
-    requires { ⌜ (sheetNo (now sheet) ≡ 0) × BothOrders (now sheet) points × Room (now workspace) ⌝ }
-    ensures { λ r. ⌜ (r ≡ chosenOf (now (sheet .entry)) (choiceNo (now (sheet .entry))))
+    requires { ⌜ (sheetNo (now sheet) ≡ 0) × ((rank : ℕ → ℕ) × BothOrders rank (now sheet) points) × Room (now workspace) ⌝ }
+    ensures { λ r. ⌜ ((rank : ℕ → ℕ) → BothOrders rank (now (sheet .entry)) points
+        → r ≡ chosenOf (now (sheet .entry)) rank (choiceNo (now (sheet .entry))))
         × (now (workspace .exit) ≡ replicate (length (now (workspace .entry))) 0) ⌝ }
 {
     let mut heights = points;

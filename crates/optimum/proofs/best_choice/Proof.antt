@@ -17,14 +17,14 @@ nothing-chosen-requires c κs = search needs
 returns : tie.Need-returns
 returns c =
     rw (c .nothing-chosen .ensures)
-    (refused-choosing _ _ _ _ (c .before .before .before .ordered-points .ensures .no) (c .before .if1 .taken))
+    (refused-choosing _ _ _ _ _ (c .before .before .before .ordered-points .ensures .no) (c .before .if1 .taken))
 
 chosen-requires : tie.Need-chosen-requires
 chosen-requires c κs =
     let points = c .before .before .before .before .ordered-points .ensures in
     let none = c .before .before .if1 .left in
-    let f = none-asked _ _ _ .is (sym (points .no) ∙ none) in
-    (none-sheet _ .of (f .0), points .ordered none, omega (arith, f .1 .1 .0))
+    let f = none-asked _ _ _ _ .is (sym (points .no) ∙ none) in
+    (none-sheet _ .of (f .0 .0), (_, points .ordered none), omega (arith, f .0 .1 .1 .0))
 
 same-length : tie.Need-same-length
 same-length c = search needs
@@ -32,10 +32,12 @@ same-length c = search needs
 returns-2 : tie.Need-returns-2
 returns-2 c =
     let r = c .before .before .chosen in
-    chosen-choosing _ _ _ _ (r .result)
-    (sym (c .before .before .before .before .before .before .before .ordered-points .ensures .no)
-    ∙ c .before .before .before .before .before .if1 .left)
-    (r .ensures .1) (r .ensures .0)
+    let points = c .before .before .before .before .before .before .before .ordered-points .ensures in
+    let none = c .before .before .before .before .before .if1 .left in
+    chosen-choosing _ _ _ _ _ (r .result)
+    (sym (points .no) ∙ none)
+    (r .ensures .1)
+    (r .ensures .0 _ (points .ordered none))
 
 pub best-choice-spec : {M : Type 1} → statement M
 best-choice-spec =

@@ -2,7 +2,9 @@
 use mathlib.Core.Path.{_≡_, _∙_, ap}
 use Prim.Native.Nat.{ℕ}
 use native.Mathlib.Omega.{arith}
+use mathlib.Core.List.{List}
 use lib.ListN.{length, replicate}
+use Rattle.orders.specs.BothOrders.{BothOrders}
 use Rattle.format.specs.Accepted.{Accepted, accepted}
 use Rattle.optimum.specs.Prepared.{Prepared, prepared}
 use Rattle.optimum.specs.Split.{numbered}
@@ -15,9 +17,19 @@ use Rattle.optimum.proofs.choosing.chosen.Tie as tie
 fine : (c : tie.Start) → Accepted (c .args .sheet .now)
 fine c = accepted _ (c .pre .0)
 
--- the array is ready for the table
-ready : (c : tie.After-write-limits) → Prepared (c .before .before .before .before .args .sheet .now) (c .write-limits .last .0)
-ready c = prepared (c .before .before .before .before .pre .1) (c .write-limits .ensures)
+abbrev sheet-of : tie.After-write-limits → List ℕ
+sheet-of c = c .before .before .before .before .args .sheet .now
+
+-- the array is ready for the table, with whatever ranks it is the sheet's
+ready-by : (c : tie.After-write-limits) (rank : ℕ → ℕ) → BothOrders rank (sheet-of c) (c .before .before .before .before .args .points)
+    → Prepared rank (sheet-of c) (c .write-limits .last .0)
+ready-by c rank o = prepared o (c .write-limits .ensures)
+
+abbrev some-ranks : tie.After-write-limits → ℕ → ℕ
+some-ranks c = c .before .before .before .before .pre .1 .0
+
+ready : (c : tie.After-write-limits) → Prepared (some-ranks c) (sheet-of c) (c .write-limits .last .0)
+ready c = ready-by c (some-ranks c) (c .before .before .before .before .pre .1 .1)
 
 write-limits-requires : tie.Need-write-limits-requires
 write-limits-requires c κs = search needs
@@ -56,8 +68,8 @@ returns : tie.Need-returns
 returns c =
     let clear = c .before .before .before .before in
     let solved = clear .before .before .before .before .solve .ensures .0 in (
-      none-chosen (start-of clear .args .sheet .now) _ (c .nothing-chosen .ensures)
-          (none-valid _ _ _ (fine (start-of clear)) (ready (limits-of clear)) solved (c .before .if1 .taken)),
+      λ rank o. none-chosen rank (start-of clear .args .sheet .now) _ (c .nothing-chosen .ensures)
+          (none-valid rank _ _ _ (fine (start-of clear)) (ready-by (limits-of clear) rank o) solved (c .before .if1 .taken)),
       zero clear,
     )
 
@@ -83,7 +95,7 @@ returns-2 c =
     let clear = c .before .before .before .before .before .before .before .before .before .before in
     let solved = clear .before .before .before .before .solve .ensures .0 in
     let lists = rw (c .before .before .before .point-count .ensures) at (c .two-lists .ensures) in (
-      lists-chosen _ _ _ _ (fine (start-of clear)) (ready (limits-of clear)) solved
+      λ rank o. lists-chosen rank _ _ _ _ (fine (start-of clear)) (ready-by (limits-of clear) rank o) solved
           (c .before .before .before .before .before .before .before .if1 .left)
           (record { at = c .before .before .before .before .by-position .ensures }) (c .two-lists .result) lists,
       zero clear,
