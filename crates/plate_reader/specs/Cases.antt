@@ -1,9 +1,10 @@
 -- Document 01's cases P1 to P10, labels at the map's edges (document 02 (a)), stacked outer labels (document 02 (b)), shared rows (document
--- 02 (c)) and ties (document 02 (d)), from the sheet's bytes: one table, one theorem. What the theorem says is in the words of labeling
+-- 02 (c)), ties (document 02 (d)) and ranks (document 02 (e)), from the sheet's bytes: one table, one theorem. What the theorem says is in the words of labeling
 -- (valid over pixels) and of format's Plate.antt (the plate of a choice, the best plate); the tests only compute it. Assumes nothing.
 use mathlib.Core.Path.{_≡_, refl, sym, ap, _∙_}
 use mathlib.Core.Bool.{Bool, true, false, cond, _&&_}
 use mathlib.Core.List.{List, [], _∷_, _++_}
+use mathlib.Core.Option.{Option, none, some}
 use Prim.Native.Nat.{ℕ}
 use lib.Dec.{T, eqb}
 use borrow.Author.Tests.{eqb-true}
@@ -13,7 +14,8 @@ use Rattle.labeling.specs.Conflicts.{conflictB, apartB, withinB, validB, every}
 use Rattle.labeling.specs.Decide.{not-both, and-left, and-right}
 use Rattle.labeling.specs.Pixels.{dec-valid}
 use Rattle.labeling.specs.Best.{weightBelow, weight, put, bestFrom, best, bestChoiceFrom, bestChoice}
-use Rattle.format.specs.Sheet.{twoBytes, pointsOf, unlikeEarlier, pointNo, pointsNo, questionsNo, sheetNo, plateSheetNo}
+use Rattle.format.specs.RankList.{rankIn, rankCountRight, ranksAllowed, ranksNo}
+use Rattle.format.specs.Sheet.{twoBytes, pointCount, pointsOf, unlikeEarlier, pointNo, pointsNo, questionsNo, sheetNo, plateSheetNo}
 use Rattle.format.specs.Accepted.{Accepted, accepted}
 use Rattle.format.specs.Plate.{choiceOf, insideBelow, insideSection, pairs, outsideSection, plateOf, bestPlate}
 use Rattle.format.specs.MakingQuestions.{choiceNo}
@@ -27,12 +29,16 @@ use Rattle.clash.specs.FirstClash.{pairClash, ownClash, firstOf, laterClash, cl
 use Rattle.clash.specs.ClashPixels.{Named, first-clash-right}
 use Rattle.plate_reader.specs.PlateQuestions.{sheetOf, insideList, outsidePairs, sectionsFit, pairsRight, sectionsNo, plateNo}
 
--- What a case says of its choice: that its plate is the one that is made; that it is valid; or its first clash, the two positions and the
--- kind.
+-- What a case says of its choice: that its plate is the one that is made, with this rank list or none; that it is valid; or its first clash,
+-- the two positions and the kind.
 pub data Expected : Type 0 where
-  made : Expected
+  madeWith : (ranks : Option (List ℕ)) → Expected
   valid : Expected
   clashes : (first second : ℕ) → ClashKind → Expected
+
+-- made without a list
+abbrev pub made : Expected
+made = madeWith none
 
 -- A sheet, the positions of a choice, what is to hold of that choice, and the bytes that its plate adds to the sheet's.
 pub record Case : Type 0 where
@@ -88,6 +94,14 @@ fourBest = sheet 4 2 4 (at 1 11 9 (at 2 4 3 (at 3 12 8 (at 4 3 4 []))))
 -- Label 4 by 2, points (8,2), (9,1), (7,3), (6,4).
 abbrev stairs : List ℕ
 stairs = sheet 4 2 4 (at 1 8 2 (at 2 9 1 (at 3 7 3 (at 4 6 4 []))))
+
+-- Label 4 by 2, points (8,3), (6,4), (4,5): the second's label meets the others', which don't meet each other.
+abbrev pub oneOrTwo : List ℕ
+oneOrTwo = sheet 4 2 3 (at 1 8 3 (at 2 6 4 (at 3 4 5 [])))
+
+-- The same points, (6,4) first.
+abbrev twoOrOne : List ℕ
+twoOrOne = sheet 4 2 3 (at 1 6 4 (at 2 8 3 (at 3 4 5 [])))
 
 abbrev pub cases : List Case
 cases =
@@ -260,19 +274,57 @@ cases =
       inside = 0 ∷ [];
       expected = clashes 0 0 Overhang;
       added = 1 ∷ 0 ∷ 2 ∷ 1 ∷ 0 ∷ 2 ∷ 1 ∷ [];
+    } ∷
+    -- document 02 (e): P5's two best counts, with the ranks 1 and 2
+    record {
+      sheet = sheet 4 2 2 (at 1 4 3 (at 2 3 4 []));
+      inside = 1 ∷ [];
+      expected = madeWith (some (2 ∷ 1 ∷ 2 ∷ []));
+      added = 1 ∷ 1 ∷ 1 ∷ 0 ∷ 0 ∷ [];
+    } ∷
+    -- two of three without a list;
+    record { sheet = oneOrTwo; inside = 0 ∷ 2 ∷ []; expected = made; added = 2 ∷ 0 ∷ 2 ∷ 1 ∷ 1 ∷ 0 ∷ [] } ∷
+    -- a rank 9 beats two of 1;
+    record {
+      sheet = oneOrTwo;
+      inside = 1 ∷ [];
+      expected = madeWith (some (3 ∷ 1 ∷ 9 ∷ 1 ∷ []));
+      added = 1 ∷ 1 ∷ 2 ∷ 2 ∷ 0 ∷ 0 ∷ 1 ∷ [];
+    } ∷
+    -- 3 and 2 beat 4: the sum decides, not the greatest rank;
+    record {
+      sheet = oneOrTwo;
+      inside = 0 ∷ 2 ∷ [];
+      expected = madeWith (some (3 ∷ 3 ∷ 4 ∷ 2 ∷ []));
+      added = 2 ∷ 0 ∷ 2 ∷ 1 ∷ 1 ∷ 0 ∷ [];
+    } ∷
+    -- equal sums, 1 and 1 against 2: "ties as in the preceding request", the one with the first point inside;
+    record {
+      sheet = oneOrTwo;
+      inside = 0 ∷ 2 ∷ [];
+      expected = madeWith (some (3 ∷ 1 ∷ 2 ∷ 1 ∷ []));
+      added = 2 ∷ 0 ∷ 2 ∷ 1 ∷ 1 ∷ 0 ∷ [];
+    } ∷
+    -- and so too where that has fewer inside
+    record {
+      sheet = twoOrOne;
+      inside = 0 ∷ [];
+      expected = madeWith (some (3 ∷ 2 ∷ 1 ∷ 1 ∷ []));
+      added = 1 ∷ 0 ∷ 2 ∷ 2 ∷ 0 ∷ 1 ∷ 1 ∷ [];
     } ∷ []
 
 -- WHAT A CASE SAYS
 
--- Of a case that is made: 61 is answered yes, and the best plate of its sheet has these bytes.
+-- Of a case that is made: the rank list is right, 61 is answered yes, and the best plate of sheet and list has these bytes.
 abbrev pub Says : Expected → Case → Type 0
-Says made c = (choiceNo (c .sheet) ≡ 0) × (bestPlate (c .sheet) ≡ c .sheet ++ c .added)
+Says (madeWith r) c =
+    (ranksNo (pointCount (c .sheet)) r ≡ 0) × (choiceNo (c .sheet) ≡ 0) × (bestPlate (c .sheet) r ≡ c .sheet ++ c .added)
 Says valid c = Valid (pointsOf (c .sheet)) (choiceOf (c .inside))
 Says (clashes i j k) c = Named (pointsOf (c .sheet)) (choiceOf (c .inside)) i j k
 
 -- What the plate's questions answer: 0, or "Is the choice valid? 44".
 abbrev pub readNo : Expected → ℕ
-readNo made = 0
+readNo (madeWith r) = 0
 readNo valid = 0
 readNo (clashes i j k) = 44
 
@@ -303,7 +355,9 @@ sameClash None i j k = false
 sameClash (Between a b m) i j k = eqb a i && (eqb b j && eqb (kindPlace m) (kindPlace k))
 
 abbrev saysB : Expected → Case → Bool
-saysB made c = eqb (choiceNo (c .sheet)) 0 && sameBytes (bestPlate (c .sheet)) (c .sheet ++ c .added)
+saysB (madeWith r) c =
+    eqb (ranksNo (pointCount (c .sheet)) r) 0
+    && (eqb (choiceNo (c .sheet)) 0 && sameBytes (bestPlate (c .sheet) r) (c .sheet ++ c .added))
 saysB valid c = validB (pointsOf (c .sheet)) (choiceOf (c .inside))
 saysB (clashes i j k) c = sameClash (firstClash (pointsOf (c .sheet)) (choiceOf (c .inside))) i j k
 
@@ -338,7 +392,12 @@ same-clash (Between a b m) i j k e =
     λ d. Between (p d) (q d) (r d)
 
 says : (x : Expected) (c : Case) → Accepted (c .sheet) → saysB x c ≡ true → Says x c
-says made c a e = (eqb-true _ _ (and-left _ _ e), dec-bytes _ _ .is (and-right (eqb (choiceNo (c .sheet)) 0) _ e))
+says (madeWith r) c a e =
+    let e₁ = and-right (eqb (ranksNo (pointCount (c .sheet)) r) 0) _ e in (
+      eqb-true _ _ (and-left _ _ e),
+      eqb-true _ _ (and-left _ _ e₁),
+      dec-bytes _ _ .is (and-right (eqb (choiceNo (c .sheet)) 0) _ e₁),
+    )
 says valid c a e = dec-valid (pointsOf (c .sheet)) (choiceOf (c .inside)) (a .proper .label-width .0) .is e
 says (clashes i j k) c a e = first-clash-right (c .sheet) (choiceOf (c .inside)) a .between i j k .0 (same-clash _ i j k e)
 
@@ -364,8 +423,8 @@ each (c ∷ cs) e = (right c (and-left _ _ e), each cs (and-right (rightB c) _ e
 all-pass : T (eachB cases)
 unfolding twoBytes unlikeEarlier pointNo pointsNo questionsNo sheetNo plateSheetNo insideBelow insideSection
     pairs outsideSection plateOf among before insert outsideBelow outside nextMargin placedFrom placed conflictB
-    apartB withinB validB every weightBelow weight put bestFrom best bestChoiceFrom bestChoice bestPlate pairClash ownClash firstOf laterClash
-    clashOf firstClash sheetOf insideList outsidePairs sectionsFit ascending pairsRight sectionsNo plateNo
+    apartB withinB validB every weightBelow weight put bestFrom best bestChoiceFrom bestChoice rankIn
+    rankCountRight ranksAllowed ranksNo bestPlate pairClash ownClash firstOf laterClash clashOf firstClash sheetOf insideList outsidePairs sectionsFit ascending pairsRight sectionsNo plateNo
 all-pass = tt
 
 T-is : (b : Bool) → T b → b ≡ true

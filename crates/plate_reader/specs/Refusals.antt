@@ -1,11 +1,13 @@
 -- Sheets with the number of their first no: one table, one theorem. It shows each question 11 to 20 refuse something, each limit from
 -- both sides, and the order of the questions where a sheet has several that are answered no. Then plates whose outside pairs aren't the
--- rule's, and sheets without a valid choice. Assumes nothing.
+-- rule's, sheets without a valid choice, and wrong rank lists beside them. Assumes nothing.
 use mathlib.Core.Path.{_≡_, refl}
 use mathlib.Core.Bool.{Bool, true, _&&_}
 use mathlib.Core.List.{List, [], _∷_, _++_}
+use mathlib.Core.Option.{Option, none, some}
 use Prim.Native.Nat.{ℕ, zero, suc, pred}
 use lib.Dec.{eqb}
+use lib.ListN.{take}
 use borrow.Author.Tests.{eqb-true}
 use Rattle.labeling.specs.Points.{before, insert, outsideBelow, outside, nextMargin, placedFrom, placed, among}
 use Rattle.labeling.specs.Conflicts.{conflictB, every, apartB, withinB, validB}
@@ -13,7 +15,8 @@ use Rattle.labeling.specs.Best.{weightBelow, weight, put, bestFrom, best, Feasi
 use Rattle.labeling.specs.Decide.{and-left, and-right}
 use Rattle.format.specs.Sizes.{workspaceCells}
 use Rattle.format.specs.Sheet.{twoBytes, pointsOf, unlikeEarlier, pointNo, pointsNo, questionsNo, sheetNo, plateSheetNo}
-use Rattle.format.specs.MakingQuestions.{askedNo, choosingNo, makingNo, loadNo}
+use Rattle.format.specs.RankList.{rankIn, rankCountRight, ranksAllowed, ranksNo}
+use Rattle.format.specs.MakingQuestions.{roomNo, askedNo, choosingNo, makingNo, loadAskedNo, loadNo}
 use Rattle.format.specs.SharedRows.{making-61}
 use Rattle.format.specs.Plate.{pairs}
 use Rattle.format.specs.Ascending.{ascending}
@@ -128,18 +131,20 @@ crowded = sheet 4 2 3 (at 1 0 3 (at 2 2 3 (at 3 4 3 [])))
 abbrev pub crowdedFour : List ℕ
 crowdedFour = sheet 4 2 4 (at 1 0 3 (at 2 2 3 (at 3 4 3 (at 4 12 8 []))))
 
--- The sheet's own questions are answered yes; making and loading have the number 61, but 21 and 22 come first.
-pub record NoChoice (s : List ℕ) (room : ℕ) : Type 0 where
+-- With the rank list r or none: the sheet's own questions are answered yes; making and loading have the number 61, but 21 and 22 come
+-- first.
+pub record NoChoice (s : List ℕ) (r : Option (List ℕ)) (room : ℕ) : Type 0 where
   pub sheet : sheetNo s ≡ 0
-  pub making : makingNo s room workspaceCells ≡ 61
-  pub loading : loadNo s workspaceCells ≡ 61
-  pub output-first : makingNo s (pred room) (pred workspaceCells) ≡ 21
-  pub workspace-first : (makingNo s room (pred workspaceCells) ≡ 22) × (loadNo s (pred workspaceCells) ≡ 22)
+  pub making : makingNo s r room workspaceCells ≡ 61
+  pub loading : loadNo s r workspaceCells ≡ 61
+  pub output-first : makingNo s r (pred room) (pred workspaceCells) ≡ 21
+  pub workspace-first : (makingNo s r room (pred workspaceCells) ≡ 22) × (loadNo s r (pred workspaceCells) ≡ 22)
 
-pub crowded-61 : NoChoice crowded 36 × NoChoice crowdedFour 44
-unfolding twoBytes every unlikeEarlier pointNo pointsNo questionsNo sheetNo askedNo choosingNo makingNo loadNo
-    conflictB apartB withinB validB weightBelow weight put bestFrom best
+pub crowded-61 : NoChoice crowded none 36 × NoChoice crowdedFour none 44 × NoChoice crowded (some (3 ∷ 1 ∷ 9 ∷ 5 ∷ [])) 36
+unfolding twoBytes every unlikeEarlier pointNo pointsNo questionsNo sheetNo rankIn rankCountRight ranksAllowed ranksNo
+    roomNo askedNo choosingNo makingNo loadAskedNo loadNo conflictB apartB withinB validB weightBelow weight put bestFrom best
 crowded-61 = (
+  record { sheet = refl; making = refl; loading = refl; output-first = refl; workspace-first = (refl, refl) },
   record { sheet = refl; making = refl; loading = refl; output-first = refl; workspace-first = (refl, refl) },
   record { sheet = refl; making = refl; loading = refl; output-first = refl; workspace-first = (refl, refl) },
 )
@@ -147,6 +152,30 @@ crowded-61 = (
 -- so no choice of theirs is valid
 pub crowded-none : (Feasible (pointsOf crowded) → ⊥) × (Feasible (pointsOf crowdedFour) → ⊥)
 crowded-none = (
-  making-61 crowded 36 workspaceCells .0 (crowded-61 .0 .making) .1,
-  making-61 crowdedFour 44 workspaceCells .0 (crowded-61 .1 .making) .1,
+  making-61 crowded none 36 workspaceCells .0 (crowded-61 .0 .making) .1,
+  making-61 crowdedFour none 44 workspaceCells .0 (crowded-61 .1 .making) .1,
+)
+
+-- A WRONG RANK LIST
+
+-- The list r has the number k, 62 or 63: "both after 22 and before 61" (document 02 (e)), here too where no choice is valid; and after the
+-- sheet's own questions, here of bytes that are cut short.
+pub record WrongRanks (r : List ℕ) (k : ℕ) : Type 0 where
+  pub making : makingNo crowded (some r) 36 workspaceCells ≡ k
+  pub loading : loadNo crowded (some r) workspaceCells ≡ k
+  pub output-first : makingNo crowded (some r) 35 workspaceCells ≡ 21
+  pub workspace-first : (makingNo crowded (some r) 36 (pred workspaceCells) ≡ 22) × (loadNo crowded (some r) (pred workspaceCells) ≡ 22)
+  pub sheet-first : (makingNo (take 9 crowded) (some r) 36 workspaceCells ≡ 11) × (loadNo (take 9 crowded) (some r) workspaceCells ≡ 11)
+
+-- no byte at all; a count byte that isn't n; a byte too few; the rank 0; the rank 10
+pub ranks-first : WrongRanks [] 62 × WrongRanks (2 ∷ 1 ∷ 9 ∷ 5 ∷ []) 62 × WrongRanks (3 ∷ 1 ∷ 9 ∷ []) 62
+    × WrongRanks (3 ∷ 1 ∷ 0 ∷ 5 ∷ []) 63 × WrongRanks (3 ∷ 1 ∷ 9 ∷ 10 ∷ []) 63
+unfolding twoBytes every unlikeEarlier pointNo pointsNo questionsNo sheetNo rankIn rankCountRight ranksAllowed ranksNo
+    roomNo askedNo choosingNo makingNo loadAskedNo loadNo conflictB apartB withinB validB weightBelow weight put bestFrom best
+ranks-first = (
+  record { making = refl; loading = refl; output-first = refl; workspace-first = (refl, refl); sheet-first = (refl, refl) },
+  record { making = refl; loading = refl; output-first = refl; workspace-first = (refl, refl); sheet-first = (refl, refl) },
+  record { making = refl; loading = refl; output-first = refl; workspace-first = (refl, refl); sheet-first = (refl, refl) },
+  record { making = refl; loading = refl; output-first = refl; workspace-first = (refl, refl); sheet-first = (refl, refl) },
+  record { making = refl; loading = refl; output-first = refl; workspace-first = (refl, refl); sheet-first = (refl, refl) },
 )
