@@ -4,6 +4,7 @@
 -- columns are those of document 02 (b). Assumes nothing.
 use mathlib.Core.Path.{_≡_}
 use mathlib.Core.List.{List}
+use mathlib.Core.Option.{Option}
 use Prim.Native.Nat.{ℕ}
 use lib.ListN.{take}
 use Rattle.labeling.specs.Points.{Choice}
@@ -27,24 +28,25 @@ pub record MadeRight (s p : List ℕ) : Type 0 where
   pub inside : handedBack p ≡ insideBelow choice (pointCount s)
 
 -- THE THEOREM. Of any bytes the reader accepts just the plates of accepted sheets and valid choices, each with one sheet and one split
--- (DemandTwoReader.antt); and every plate that make can put into its output, by its contract, is read back to the same split.
+-- (DemandTwoReader.antt); and every plate that make and make_ranked can put into their output, by their contract, is read back to the same
+-- split.
 pub record DemandTwo : Type 0 where
   pub reads : (p : List ℕ) → ReadRight p
-  pub made : (s o w o′ w′ : List ℕ) (k : ℕ) → Making s o w (Made k) o′ w′ → MadeRight s (take k o′)
+  pub made : (s : List ℕ) (r : Option (List ℕ)) (o w o′ w′ : List ℕ) (k : ℕ) → Making s r o w (Made k) o′ w′ → MadeRight s (take k o′)
 
-made-right : (s o w o′ w′ : List ℕ) (k : ℕ) → Making s o w (Made k) o′ w′ → MadeRight s (take k o′)
+made-right : (s : List ℕ) (r : Option (List ℕ)) (o w o′ w′ : List ℕ) (k : ℕ) → Making s r o w (Made k) o′ w′ → MadeRight s (take k o′)
 unfolding bestPlate
-made-right s o w o′ w′ k m =
-    let v : Valid (pointsOf s) (bestChoiceOf s) = made-preferred m .best .valid in
+made-right s r o w o′ w′ k m =
+    let v : Valid (pointsOf s) (bestChoiceOf s r) = made-preferred m .best .valid in
     let x : PlateOfChoice (take k o′) = record {
       sheet = s;
-      choice = bestChoiceOf s;
+      choice = bestChoiceOf s r;
       accepted = none-sheet s .of (made-accepted m);
       valid = v;
       plate = made-start m;
     } in
-    let r : ReadRight (take k o′) = demand-two-reader (take k o′) in
-    record { choice = bestChoiceOf s; valid = v; plate = made-start m; accepted = r .accepts .1 x; inside = r .inside x }
+    let read : ReadRight (take k o′) = demand-two-reader (take k o′) in
+    record { choice = bestChoiceOf s r; valid = v; plate = made-start m; accepted = read .accepts .1 x; inside = read .inside x }
 
 pub demand-two : DemandTwo
 demand-two = record { reads = demand-two-reader; made = made-right }

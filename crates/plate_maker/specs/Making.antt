@@ -1,8 +1,9 @@
 -- What making answers, writes and leaves: the plate maker's promise (document 01, "Questions in their order" and "Agreement", and document
--- 02 (c) and (d)). Assumes nothing.
+-- 02 (c) to (e)). Assumes nothing.
 use mathlib.Core.Path.{_≡_}
 use mathlib.Core.Bool.{Bool, true, false, cond, not}
 use mathlib.Core.List.{List}
+use mathlib.Core.Option.{Option}
 use Prim.Native.Nat.{ℕ}
 use lib.Dec.{eqb}
 use lib.ListN.{length}
@@ -22,12 +23,13 @@ abbrev pub makeOutcome : MakeAnswer → MakeOutcome
 makeOutcome (Made written) = record { refused = false; no = 0; written = written }
 makeOutcome (Refused k) = record { refused = true; no = k; written = 0 }
 
--- The outcome of making a plate of s, where the first no is k.
-abbrev pub makeOutcomeOf : List ℕ → ℕ → MakeOutcome
-makeOutcomeOf s k = record { refused = not (eqb k 0); no = k; written = cond (eqb k 0) (length (bestPlate s)) 0 }
+-- The outcome of making a plate of s with the rank list r, if one is lent, where the first no is k.
+abbrev pub makeOutcomeOf : List ℕ → Option (List ℕ) → ℕ → MakeOutcome
+makeOutcomeOf s r k = record { refused = not (eqb k 0); no = k; written = cond (eqb k 0) (length (bestPlate s r)) 0 }
 
--- THE PROMISE of make, on any sheet s, output o and workspace w: its answer, and what output and workspace hold afterwards.
-pub record Making (s o w : List ℕ) (answer : MakeAnswer) (o′ w′ : List ℕ) : Type 0 where
-  pub outcome : makeOutcome answer ≡ makeOutcomeOf s (makingNo s (length o) (length w))
-  pub workspace : w′ ≡ workspaceAfter (makingNo s (length o) (length w)) w
-  pub output : o′ ≡ outputAfter (makingNo s (length o) (length w)) s o
+-- THE PROMISE of make, where r is none, and of make_ranked, where it is the list, on any sheet s, list, output o and workspace w: the
+-- answer, and what output and workspace hold afterwards.
+pub record Making (s : List ℕ) (r : Option (List ℕ)) (o w : List ℕ) (answer : MakeAnswer) (o′ w′ : List ℕ) : Type 0 where
+  pub outcome : makeOutcome answer ≡ makeOutcomeOf s r (makingNo s r (length o) (length w))
+  pub workspace : w′ ≡ workspaceAfter (makingNo s r (length o) (length w)) w
+  pub output : o′ ≡ outputAfter (makingNo s r (length o) (length w)) s r o

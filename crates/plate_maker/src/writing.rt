@@ -3,9 +3,9 @@ ghost use mathlib.Core.Path.{_≡_};
 ghost use Prim.Native.Nat.{_+_, _*_, _<_, _≤_};
 ghost use mathlib.Core.List.{_∷_, _++_};
 ghost use lib.ListN.{length, drop};
-ghost use Rattle.labeling.specs.Points.{placed};
+ghost use Rattle.labeling.specs.Points.{Choice, placed};
 ghost use Rattle.format.specs.Sheet.{sheetNo, pointCount, pointsOf};
-ghost use Rattle.format.specs.Plate.{pairs, bestChoiceOf, bestPlate};
+ghost use Rattle.format.specs.Plate.{pairs, plateOf};
 ghost use Rattle.optimum.specs.Choosing.{splitOf};
 ghost use Rattle.format.specs.Written.{written};
 ghost use Rattle.plate_maker.specs.Writing.{sectionOf, marginAfter, plateOfLists};
@@ -81,13 +81,14 @@ fn write_plate(sheet: &[u8], inside: &[u8], outside: &[u8], output: &mut [u8]) -
     write_outside(sheet, outside, output, at)
 }
 
-// Writes the plate of an accepted sheet and its best choice at the start of the output, and gives its length.
-pub(crate) fn write_best(sheet: &[u8], choice: BestChoice, output: &mut [u8]) -> usize
-    requires { ⌜ (sheetNo (now sheet) ≡ 0) × (choice ≡ splitOf (now sheet) (bestChoiceOf (now sheet)))
+// Writes the plate of an accepted sheet and a choice, which is given by its two lists, at the start of the output, and gives its length.
+pub(crate) fn write_split(sheet: &[u8], choice: BestChoice, output: &mut [u8]) -> usize
+    requires { ⌜ (sheetNo (now sheet) ≡ 0) × ((S : Choice) × (choice ≡ splitOf (now sheet) S))
         × (12 + 8 * pointCount (now sheet) ≤ length (now output)) ⌝ }
-    ensures { λ r. ⌜ (r ≡ length (bestPlate (now (sheet .entry))))
+    ensures { λ r. ⌜ ((S : Choice) → choice ≡ splitOf (now (sheet .entry)) S
+        → (r ≡ length (plateOf (now (sheet .entry)) S))
         × (now (output .exit)
-        ≡ bestPlate (now (sheet .entry)) ++ drop (length (bestPlate (now (sheet .entry)))) (now (output .entry))) ⌝ }
+        ≡ plateOf (now (sheet .entry)) S ++ drop (length (plateOf (now (sheet .entry)) S)) (now (output .entry)))) ⌝ }
 {
     let inside = choice.inside;
     let inside_count = choice.inside_count as usize;
