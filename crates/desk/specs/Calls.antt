@@ -1,5 +1,5 @@
--- A sequence of calls, and document 01's words about it ("The desk", words of demand 3): first the sequence and the desk that it leaves, by
--- the promises of load and mark; then the words, from the calls alone. What demand 3 claims in these words is in DemandThree.antt. Assumes
+-- A sequence of calls, and document 01's words about it ("The desk", words of demand 3) with the rank lists of document 02 (e): first the
+-- sequence and the desk that it leaves, by the promises of load and mark; then the words, from the calls alone. What demand 3 claims in these words is in DemandThree.antt. Assumes
 -- nothing.
 use mathlib.Core.Path.{_≡_}
 use mathlib.Core.Bool.{Bool, true, false, cond, _||_}
@@ -25,9 +25,9 @@ use Rattle.desk.specs.declared.Desk.{Desk}
 
 -- THE SEQUENCE
 
--- A call: "A call may be lent any bytes at all, and a load any workspace."
+-- A call: "A call may be lent any bytes at all, and a load any workspace." "A rank list may be lent beside the sheet" (document 02 (e)).
 pub data Call : Type 0 where
-  load : (sheet workspace : List ℕ) → Call
+  load : (sheet : List ℕ) (ranks : Option (List ℕ)) (workspace : List ℕ) → Call
   mark : (list : List ℕ) → Call
 
 -- "Its sequence is any list of loads and marks, in any order and of any length, the empty one too."
@@ -39,7 +39,7 @@ infixl 20 _andThen_
 -- The desk that a call hands back: loadOf and markOf are the one result that the promises of load and mark leave (loading-exactly,
 -- marking-exactly, of DeskLaws.antt).
 abbrev pub deskOf : Desk → Call → Desk
-deskOf d (load s w) = loadOf d s w .desk
+deskOf d (load s r w) = loadOf d s r w .desk
 deskOf d (mark l) = markOf d l .desk
 
 -- "It starts from a fresh desk. Each call gets the desk that the call before it handed back."
@@ -49,38 +49,43 @@ deskAfter (calls andThen c) = deskOf (deskAfter calls) c
 
 -- DOCUMENT 01'S WORDS, from the calls alone
 
--- "A load is accepted if all its questions are answered yes", 61 among them (document 02 (c)).
-abbrev pub AcceptedLoad : List ℕ → List ℕ → Type 0
-AcceptedLoad s w = loadNo s (length w) ≡ 0
+-- "A load is accepted if all its questions are answered yes", 61 to 63 among them (document 02 (c) and (e)).
+abbrev pub AcceptedLoad : List ℕ → Option (List ℕ) → List ℕ → Type 0
+AcceptedLoad s r w = loadNo s r (length w) ≡ 0
 
 -- The same as a test.
-abbrev pub accepts : List ℕ → List ℕ → Bool
-accepts s w = eqb (loadNo s (length w)) 0
+abbrev pub accepts : List ℕ → Option (List ℕ) → List ℕ → Bool
+accepts s r w = eqb (loadNo s r (length w)) 0
 
 -- "a sheet is loaded if a load earlier in the sequence was accepted"
 unfoldable pub loadedAfter : Calls → Bool
 loadedAfter noCalls = false
-loadedAfter (calls andThen load s w) = accepts s w || loadedAfter calls
+loadedAfter (calls andThen load s r w) = accepts s r w || loadedAfter calls
 loadedAfter (calls andThen mark l) = loadedAfter calls
 
--- "the last sheet so accepted", where there is one
-unfoldable pub lastSheet : Calls → Option (List ℕ)
-lastSheet noCalls = none
-lastSheet (calls andThen load s w) = cond (accepts s w) (some s) (lastSheet calls)
-lastSheet (calls andThen mark l) = lastSheet calls
+-- An accepted sheet "together with the rank list lent at its load, if any" (document 02 (e)).
+pub record Taken : Type 0 where
+  pub sheet : List ℕ
+  pub ranks : Option (List ℕ)
+
+-- "the last sheet so accepted", where there is one, with its list
+unfoldable pub lastTaken : Calls → Option Taken
+lastTaken noCalls = none
+lastTaken (calls andThen load s r w) = cond (accepts s r w) (some (record { sheet = s; ranks = r })) (lastTaken calls)
+lastTaken (calls andThen mark l) = lastTaken calls
 
 -- "n is that of the last sheet so accepted" (0 where there is none)
-abbrev pub pointsIn : Option (List ℕ) → ℕ
+abbrev pub pointsIn : Option Taken → ℕ
 pointsIn none = 0
-pointsIn (some s) = pointCount s
+pointsIn (some t) = pointCount (t .sheet)
 
 -- The lists marked, in their order. "A list is marked if all its mark's questions are answered yes. In these, ... the last number is how
 -- many lists were marked earlier in the sequence, under whatever sheets."
 unfoldable pub markedLists : Calls → List (List ℕ)
 markedLists noCalls = []
-markedLists (calls andThen load s w) = markedLists calls
+markedLists (calls andThen load s r w) = markedLists calls
 markedLists (calls andThen mark l) =
-    markedLists calls ++ cond (eqb (markNo (loadedAfter calls) (pointsIn (lastSheet calls)) (length (markedLists calls)) l) 0) (l ∷ []) []
+    markedLists calls ++ cond (eqb (markNo (loadedAfter calls) (pointsIn (lastTaken calls)) (length (markedLists calls)) l) 0) (l ∷ []) []
 
 -- "the last number is how many lists were marked earlier in the sequence"
 abbrev pub lastNumber : Calls → ℕ
@@ -88,7 +93,7 @@ lastNumber calls = length (markedLists calls)
 
 -- The first no of a mark of the list l after these calls, 0 if there is none.
 abbrev pub markNoAfter : Calls → List ℕ → ℕ
-markNoAfter calls l = markNo (loadedAfter calls) (pointsIn (lastSheet calls)) (lastNumber calls) l
+markNoAfter calls l = markNo (loadedAfter calls) (pointsIn (lastTaken calls)) (lastNumber calls) l
 
 -- "A list is marked if all its mark's questions are answered yes."
 abbrev pub MarkedAfter : Calls → List ℕ → Type 0
@@ -96,10 +101,10 @@ MarkedAfter calls l = markNoAfter calls l ≡ 0
 
 -- which is: a sheet is loaded, 31 to 33 are answered yes with its n, and the last number is below 9,999
 pub marked-exactly : (calls : Calls) (l : List ℕ)
-    → MarkedAfter calls l ↔ ((loadedAfter calls ≡ true) × (listNo (pointsIn (lastSheet calls)) l ≡ 0) × (lastNumber calls < 9999))
+    → MarkedAfter calls l ↔ ((loadedAfter calls ≡ true) × (listNo (pointsIn (lastTaken calls)) l ≡ 0) × (lastNumber calls < 9999))
 marked-exactly calls l =
-    let m = none-mark (loadedAfter calls) (pointsIn (lastSheet calls)) (lastNumber calls) l in
-    let n = none-list (pointsIn (lastSheet calls)) l in
+    let m = none-mark (loadedAfter calls) (pointsIn (lastTaken calls)) (lastNumber calls) l in
+    let n = none-list (pointsIn (lastTaken calls)) l in
     (λ z. (m .is z .0 .0, n .of (m .is z .0 .1), m .is z .1 .0), λ a. m .of ((a .0, n .is (a .1)), (a .2, tt)))
 
 -- "A list is well-formed for a sheet if 31 to 33 are answered yes with that sheet's n."
@@ -115,15 +120,16 @@ pub record ValidList (s l : List ℕ) : Type 0 where
   pub well-formed : WellFormed s l
   pub valid : Valid (pointsOf s) (choiceOfList l)
 
--- "A plate made from S is the plate that a making puts into its output when it is given the bytes of S and isn't refused": p is the first
--- written-length bytes of an output that meets make's contract, with any buffers.
-pub record PlateMade (s p : List ℕ) : Type 0 where
+-- "A plate made from S is the plate that a making puts into its output when it is given the bytes of S and isn't refused", and "the plate is
+-- made with that same list" (document 02 (e)): p is the first written-length bytes of an output that meets make's contract, with the list r
+-- or none and any buffers.
+pub record PlateMade (s : List ℕ) (r : Option (List ℕ)) (p : List ℕ) : Type 0 where
   pub output : List ℕ
   pub workspace : List ℕ
   pub answer : MakeAnswer
   pub output-after : List ℕ
   pub workspace-after : List ℕ
-  pub made : Making s output workspace answer output-after workspace-after
+  pub made : Making s r output workspace answer output-after workspace-after
   pub not-refused : makeOutcome answer .refused ≡ false
   pub plate : p ≡ take (makeOutcome answer .written) output-after
 

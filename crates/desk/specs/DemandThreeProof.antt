@@ -12,14 +12,15 @@ use native.Mathlib.Omega.{arith}
 use Rattle.format.specs.Sizes.{workspaceCells}
 use Rattle.labeling.specs.Points.{Choice}
 use Rattle.labeling.specs.Marks.{Valid}
-use Rattle.labeling.specs.Best.{weight, count, oneEach, Preferred, Feasible, bestCount}
+use Rattle.labeling.specs.Best.{weight, Preferred, Feasible, bestSum}
 use Rattle.labeling.specs.Agree.{valid-agree}
-use Rattle.labeling.specs.Greatest.{best-counts, best-count-most}
+use Rattle.labeling.specs.Greatest.{best-sums, best-sum-most}
 use Rattle.labeling.specs.Decide.{not-both, decide}
 use Rattle.format.specs.Sheet.{pointCount, pointsOf}
 use Rattle.format.specs.Accepted.{Accepted}
 use Rattle.format.specs.Plate.{choiceOf, insideBelow, bestChoiceOf, bestPlate}
-use Rattle.format.specs.PlateLength.{inside-length}
+use Rattle.format.specs.RankList.{rankIn}
+use Rattle.format.specs.RightRanks.{RightRanks}
 use Rattle.clash.specs.declared.ClashKind.{ClashKind}
 use Rattle.clash.specs.declared.Clash.{Clash}
 use Rattle.clash.specs.declared.Clash.the-variants.{None, Between}
@@ -31,17 +32,17 @@ use Rattle.plate_maker.specs.Making.{makeOutcome, Making}
 use Rattle.plate_maker.specs.MakingLaws.{made-making, made-preferred, made-start}
 use Rattle.plate_maker.specs.declared.MakeAnswer.{MakeAnswer}
 use Rattle.plate_maker.specs.declared.MakeAnswer.the-variants.{Made, Refused}
-use Rattle.desk.specs.Questions.{listCount, loadedListNo, markNo}
-use Rattle.desk.specs.Desk.{nothingHeld, heldOf, loadOutcome, verdictBy, verdictAt}
+use Rattle.desk.specs.Questions.{positions, sumOf, listSum, loadedListNo, markNo}
+use Rattle.desk.specs.Desk.{nothingHeld, ranksHeld, rankHeld, heldOf, loadOutcome, verdictBy, verdictAt}
 use Rattle.desk.specs.Desk.{verdictOf, firstNo, markedDesk, verdictOutcome, markOutcome}
 use Rattle.desk.specs.DeskLaws.{load-yes, load-no, mark-yes, mark-no, none-mark}
-use Rattle.desk.specs.Lists.{Listed, none-list, list-count, choice-listed}
+use Rattle.desk.specs.Lists.{Listed, none-list, inside-sum, sum-same, list-sum, choice-listed}
 use Rattle.desk.specs.Calls.{load, mark, Calls, noCalls, _andThen_, deskAfter, AcceptedLoad, accepts, loadedAfter}
-use Rattle.desk.specs.Calls.{lastSheet, pointsIn}
+use Rattle.desk.specs.Calls.{Taken, lastTaken, pointsIn}
 use Rattle.desk.specs.Calls.{markedLists, lastNumber, markNoAfter, MarkedAfter, choiceOfList, ValidList, PlateMade, sectionRead}
 use Rattle.desk.specs.DemandThree.{given, numberedLists, numberFrom, LoadRight, VerdictRight}
 use Rattle.desk.specs.DemandThree.{MarkedRight, MarkRight, BestList, DemandThree}
-use Rattle.desk.specs.Loaded.{points-same, count-same, section-read}
+use Rattle.desk.specs.Loaded.{points-same, count-same, rank-held, section-read}
 use Rattle.desk.specs.declared.Desk.{Desk}
 use Rattle.desk.specs.declared.MarkAnswer.the-variants.{Marked}
 use Rattle.desk.specs.declared.Verdict.{Verdict}
@@ -49,11 +50,12 @@ use Rattle.desk.specs.declared.Verdict.{Verdict}
 -- VERDICTS AND PLATES
 
 -- The verdict, by the first clash of the list's choice.
-module _ (s l : List ℕ) (a : Accepted s) (f : Listed (pointCount s) l) where
-  list-at-most : Valid (pointsOf s) (choiceOfList l) → listCount l ≤ bestCount (pointsOf s)
-  list-at-most v = rw (list-count s l f) at (best-count-most (pointsOf s) (choiceOfList l) (a .proper .label-width .0) v)
+module _ (s : List ℕ) (r : Option (List ℕ)) (l : List ℕ) (a : Accepted s) (f : Listed (pointCount s) l) where
+  list-at-most : Valid (pointsOf s) (choiceOfList l) → listSum (rankIn r) l ≤ bestSum (pointsOf s) (rankIn r)
+  list-at-most v =
+      rw (list-sum (rankIn r) s l f) at (best-sum-most (pointsOf s) (rankIn r) (choiceOfList l) (a .proper .label-width .0) v)
 
-  verdict-right : VerdictRight s l (verdictOutcome (verdictAt s (bestCount (pointsOf s)) l))
+  verdict-right : VerdictRight s r l (verdictOutcome (verdictAt s (rankIn r) (bestSum (pointsOf s) (rankIn r)) l))
   unfolding verdictAt
   verdict-right = which (firstClash (pointsOf s) (choiceOfList l)) refl
     where
@@ -64,7 +66,7 @@ module _ (s l : List ℕ) (a : Accepted s) (f : Listed (pointCount s) l) where
       apart e = true≢false (sym (ap isClash e))
 
       which : (x : Clash) → firstClash (pointsOf s) (choiceOfList l) ≡ x
-          → VerdictRight s l (verdictOutcome (verdictBy x (listCount l) (bestCount (pointsOf s))))
+          → VerdictRight s r l (verdictOutcome (verdictBy x (listSum (rankIn r) l) (bestSum (pointsOf s) (rankIn r))))
       which None e = record {
         valid-exactly = (λ t. c .none .0 e, λ v. refl);
         valid = λ v. refl;
@@ -80,23 +82,25 @@ module _ (s l : List ℕ) (a : Accepted s) (f : Listed (pointCount s) l) where
               let f : some i ≡ some a = λ t. q t .first in
               let g : some j ≡ some b = λ t. q t .second in
               let h : some k ≡ some m = λ t. q t .kind in
-              let r : Between i j k ≡ Between a b m = cc in
-              c .between a b m .0 (e ∙ r),
-          λ n. ap (λ x. verdictOutcome (verdictBy x (listCount l) (bestCount (pointsOf s)))) (sym e ∙ c .between a b m .1 n),
+              let y : Between i j k ≡ Between a b m = cc in
+              c .between a b m .0 (e ∙ y),
+          λ n. ap (λ x. verdictOutcome (verdictBy x (listSum (rankIn r) l) (bestSum (pointsOf s) (rankIn r)))) (sym e ∙ c .between a b m .1 n),
         );
       }
 
--- a valid list is a valid choice of its count
-valid-list-most : (s l : List ℕ) → Accepted s → ValidList s l → listCount l ≤ bestCount (pointsOf s)
-valid-list-most s l a v = list-at-most s l a (none-list (pointCount s) l .is (v .well-formed)) (v .valid)
+-- a valid list is a valid choice of its sum
+valid-list-most : (s : List ℕ) (r : Option (List ℕ)) (l : List ℕ) → Accepted s → ValidList s l
+    → listSum (rankIn r) l ≤ bestSum (pointsOf s) (rankIn r)
+valid-list-most s r l a v = list-at-most s r l a (none-list (pointCount s) l .is (v .well-formed)) (v .valid)
 
--- The list of a valid choice with the best count.
-module _ (s : List ℕ) (a : Accepted s) (S : Choice) (v : Valid (pointsOf s) S) (b : count (pointsOf s) S ≡ bestCount (pointsOf s)) where
-  choice-best : BestList s (length (insideBelow S (pointCount s)) ∷ insideBelow S (pointCount s))
-  unfolding count weight
+-- The list of a valid choice with the best sum.
+module _ (s : List ℕ) (r : Option (List ℕ)) (a : Accepted s) (S : Choice) (v : Valid (pointsOf s) S)
+    (b : weight (pointsOf s) (rankIn r) S ≡ bestSum (pointsOf s) (rankIn r)) where
+  choice-best : BestList s r (length (insideBelow S (pointCount s)) ∷ insideBelow S (pointCount s))
+  unfolding weight
   choice-best =
       let p = insideBelow S (pointCount s) in
-      let e : length p ≡ bestCount (pointsOf s) = inside-length S (pointCount s) ∙ b in
+      let e : sumOf (rankIn r) p ≡ bestSum (pointsOf s) (rankIn r) = inside-sum (rankIn r) S (pointCount s) ∙ b in
       record {
         valid = record {
           well-formed =
@@ -104,84 +108,91 @@ module _ (s : List ℕ) (a : Accepted s) (S : Choice) (v : Valid (pointsOf s) S)
               (choice-listed (pointCount s) p (inside-ascending S (pointCount s) (pointCount s) (omega arith)));
           valid = valid-agree (pointsOf s) S (choiceOf p) (record { at = λ i l. sym (choice-of-list S (pointCount s) i l) }) v;
         };
-        greatest = λ l w. rw e (valid-list-most s l a w);
+        greatest = λ l w. rw e (valid-list-most s r l a w);
         best = e;
       }
 
 -- "A plate made from S" is the best plate, whose choice is the preferred one: only the promise of make is used.
-plate-made : (s p : List ℕ) → PlateMade s p → (p ≡ bestPlate s) × Preferred (pointsOf s) oneEach (bestChoiceOf s)
-plate-made s p m = by (m .answer) (m .made) (m .not-refused) (m .plate)
-  where
-    by : {o w o′ w′ : List ℕ} (answer : MakeAnswer) → Making s o w answer o′ w′ → makeOutcome answer .refused ≡ false
-        → p ≡ take (makeOutcome answer .written) o′ → (p ≡ bestPlate s) × Preferred (pointsOf s) oneEach (bestChoiceOf s)
-    by (Refused k) m e q = absurd (true≢false e)
-    by (Made r) m e q = (q ∙ made-start m, made-preferred m)
+module _ (s : List ℕ) (r : Option (List ℕ)) where
+  plate-made : (p : List ℕ) → PlateMade s r p → (p ≡ bestPlate s r) × Preferred (pointsOf s) (rankIn r) (bestChoiceOf s r)
+  plate-made p m = by (m .answer) (m .made) (m .not-refused) (m .plate)
+    where
+      by : {o w o′ w′ : List ℕ} (answer : MakeAnswer) → Making s r o w answer o′ w′ → makeOutcome answer .refused ≡ false
+          → p ≡ take (makeOutcome answer .written) o′ → (p ≡ bestPlate s r) × Preferred (pointsOf s) (rankIn r) (bestChoiceOf s r)
+      by (Refused k) m e q = absurd (true≢false e)
+      by (Made k) m e q = (q ∙ made-start m, made-preferred m)
 
--- THE SAME PLATE FROM EVERY DESK (document 02 (d)): two plates made from one sheet, with any buffers, are one.
-pub one-plate : (s p q : List ℕ) → PlateMade s p → PlateMade s q → p ≡ q
-one-plate s p q m n = plate-made s p m .0 ∙ sym (plate-made s q n .0)
+  -- THE SAME PLATE FROM EVERY DESK (document 02 (d)): two plates made from one sheet, with one list or none and any buffers, are one.
+  pub one-plate : (p q : List ℕ) → PlateMade s r p → PlateMade s r q → p ≡ q
+  one-plate p q m n = plate-made p m .0 ∙ sym (plate-made q n .0)
 
-plate-made-best : (s p : List ℕ) → Accepted s → PlateMade s p → BestList s (sectionRead p)
-unfolding bestPlate
-plate-made-best s p a m =
-    let x = plate-made s p m in
-    let S = bestChoiceOf s in
-    let b = x .1 .best in
-    rw (x .0, section-read s S a) (choice-best s a S (b .valid) (best-counts (pointsOf s) S (a .proper .label-width .0) b))
+  plate-made-best : (p : List ℕ) → Accepted s → PlateMade s r p → BestList s r (sectionRead p)
+  unfolding bestPlate
+  plate-made-best p a m =
+      let x = plate-made p m in
+      let S = bestChoiceOf s r in
+      let b = x .1 .best in
+      rw (x .0, section-read s S a)
+      (choice-best s r a S (b .valid) (best-sums (pointsOf s) (rankIn r) S (a .proper .label-width .0) b))
 
--- from every accepted sheet that has a valid choice some plate is made: the best plate with zeroed buffers meets the promise
-feasible-plate : (s : List ℕ) → Accepted s → Feasible (pointsOf s) → (p : List ℕ) × PlateMade s p
-feasible-plate s a f =
+-- from every accepted sheet that has a valid choice some plate is made, with a right list or none: the best plate with zeroed buffers meets
+-- the promise
+feasible-plate : (s : List ℕ) (r : Option (List ℕ)) → Accepted s → RightRanks (pointCount s) r → Feasible (pointsOf s)
+    → (p : List ℕ) × PlateMade s r p
+feasible-plate s r a l f =
     let o : List ℕ = replicate (12 + 8 * pointCount s) 0 in
     let w : List ℕ = replicate workspaceCells 0 in
     let room : 12 + 8 * pointCount s ≤ length o = rw (length-replicate {A = ℕ} (12 + 8 * pointCount s) 0) (omega arith) in
     let cells : workspaceCells ≤ length w = rw (length-replicate {A = ℕ} workspaceCells 0) (omega arith) in
-    let z : makingNo s (length o) (length w) ≡ 0 = none-making s (length o) (length w) .of ((a, (room, (cells, tt))), (f, tt)) in (
+    let z : makingNo s r (length o) (length w) ≡ 0 =
+    none-making s r (length o) (length w) .of (((a, (room, (cells, tt))), l), (f, tt)) in (
       _,
       record {
         output = o;
         workspace = w;
-        answer = Made (length (bestPlate s));
-        output-after = outputAfter 0 s o;
-        workspace-after = workspaceAfter (makingNo s (length o) (length w)) w;
-        made = made-making s o w _ _ _ z refl refl refl;
+        answer = Made (length (bestPlate s r));
+        output-after = outputAfter 0 s r o;
+        workspace-after = workspaceAfter (makingNo s r (length o) (length w)) w;
+        made = made-making s r o w _ _ _ z refl refl refl;
         not-refused = refl;
         plate = refl;
       },
     )
 
--- so from the sheet of every accepted load
-pub some-plate : (s w : List ℕ) → AcceptedLoad s w → (p : List ℕ) × PlateMade s p
-some-plate s w z = let a = none-load s (length w) .is z in feasible-plate s (a .0 .0) (a .1 .0)
+-- so from the sheet of every accepted load, with its list
+pub some-plate : (s : List ℕ) (r : Option (List ℕ)) (w : List ℕ) → AcceptedLoad s r w → (p : List ℕ) × PlateMade s r p
+some-plate s r w z = let a = none-load s r (length w) .is z in feasible-plate s r (a .0 .0 .0) (a .0 .1) (a .1 .0)
 
 -- THE DESK AFTER ANY CALLS, tied to the words.
 
--- What the desk holds of the last accepted sheet.
-SheetHeld : Desk → Option (List ℕ) → Type 0
+-- What the desk holds of the last accepted sheet and its list.
+SheetHeld : Desk → Option Taken → Type 0
 SheetHeld d none = d .held ≡ nothingHeld
-SheetHeld d (some s) = (d .held ≡ heldOf s (bestCount (pointsOf s))) × Accepted s × Feasible (pointsOf s)
+SheetHeld d (some t) =
+    (d .held ≡ heldOf (t .sheet) (ranksHeld (t .sheet) (t .ranks)) (bestSum (pointsOf (t .sheet)) (rankIn (t .ranks))))
+    × Accepted (t .sheet) × RightRanks (pointCount (t .sheet)) (t .ranks) × Feasible (pointsOf (t .sheet))
 
-abbrev isSome : Option (List ℕ) → Bool
+abbrev isSome : Option Taken → Bool
 isSome none = false
-isSome (some s) = true
+isSome (some t) = true
 
 record Tied (calls : Calls) : Type 0 where
-  sheet : SheetHeld (deskAfter calls) (lastSheet calls)
-  loaded : loadedAfter calls ≡ isSome (lastSheet calls)
+  sheet : SheetHeld (deskAfter calls) (lastTaken calls)
+  loaded : loadedAfter calls ≡ isSome (lastTaken calls)
   last : deskAfter calls .last ≡ lastNumber calls
   numbers : numberedLists calls ≡ numberFrom 1 (markedLists calls)
 
 -- the desk asks the questions that the words ask
-same-mark-no : (d : Desk) (o : Option (List ℕ)) (k : ℕ) (l : List ℕ) → SheetHeld d o → d .last ≡ k
+same-mark-no : (d : Desk) (o : Option Taken) (k : ℕ) (l : List ℕ) → SheetHeld d o → d .last ≡ k
     → firstNo d l ≡ markNo (isSome o) (pointsIn o) k l
 unfolding SheetHeld markNo loadedListNo
 same-mark-no d none k l h e = rw h refl
-same-mark-no d (some s) k l h e = rw (h .0, count-same s, e) refl
+same-mark-no d (some t) k l h e = rw (h .0, count-same (t .sheet), e) refl
 
 tied-mark-no : (calls : Calls) (l : List ℕ) → Tied calls → firstNo (deskAfter calls) l ≡ markNoAfter calls l
 tied-mark-no calls l t =
-    same-mark-no (deskAfter calls) (lastSheet calls) (lastNumber calls) l (t .sheet) (t .last)
-    ∙ ap (λ b. markNo b (pointsIn (lastSheet calls)) (lastNumber calls) l) (sym (t .loaded))
+    same-mark-no (deskAfter calls) (lastTaken calls) (lastNumber calls) l (t .sheet) (t .last)
+    ∙ ap (λ b. markNo b (pointsIn (lastTaken calls)) (lastNumber calls) l) (sym (t .loaded))
 
 -- one more numbered list
 number-last : (k : ℕ) (ls : List (List ℕ)) (l : List ℕ)
@@ -195,40 +206,43 @@ number-last k (x ∷ ls) l =
     (let q : k + 1 + length ls ≡ k + suc (length ls) = omega arith in q))
 
 -- a desk and a last sheet put in place of equal ones
-held-at : {d e : Desk} {o q : Option (List ℕ)} → d ≡ e → o ≡ q → SheetHeld e q → SheetHeld d o
+held-at : {d e : Desk} {o q : Option Taken} → d ≡ e → o ≡ q → SheetHeld e q → SheetHeld d o
 held-at p q h = rw (p, q) h
 
 -- a marked list leaves the sheet held
-held-marked : (d : Desk) (k : ℕ) (v : Verdict) (o : Option (List ℕ)) → SheetHeld d o → SheetHeld (markedDesk (Marked k v) d) o
+held-marked : (d : Desk) (k : ℕ) (v : Verdict) (o : Option Taken) → SheetHeld d o → SheetHeld (markedDesk (Marked k v) d) o
 unfolding SheetHeld
 held-marked d k v none h = h
-held-marked d k v (some s) h = h
+held-marked d k v (some t) h = h
 
-tied-load : (calls : Calls) (s w : List ℕ) → Tied calls → Tied (calls andThen load s w)
-unfolding deskAfter lastSheet loadedAfter markedLists numberedLists SheetHeld
-tied-load calls s w t =
-    decide (accepts s w)
+tied-load : (calls : Calls) (s : List ℕ) (r : Option (List ℕ)) (w : List ℕ) → Tied calls → Tied (calls andThen load s r w)
+unfolding deskAfter lastTaken loadedAfter markedLists numberedLists SheetHeld
+tied-load calls s r w t =
+    decide (accepts s r w)
     (λ e.
-    let z : loadNo s (length w) ≡ 0 = eqb-true _ _ e in
-    let r = load-yes (deskAfter calls) s w z in
-    let a = none-load s (length w) .is z in
+    let z : loadNo s r (length w) ≡ 0 = eqb-true _ _ e in
+    let x = load-yes (deskAfter calls) s r w z in
+    let a = none-load s r (length w) .is z in
     record {
-      sheet = held-at (ap (λ r. r .desk) r) (ap (λ b. cond b (some s) (lastSheet calls)) e) (refl, a .0 .0, a .1 .0);
+      sheet = held-at (ap (λ x. x .desk) x) (ap (λ b. cond b (some taken) (lastTaken calls)) e) (refl, a .0 .0 .0, a .0 .1, a .1 .0);
       loaded = rw e refl;
-      last = ap (λ r. r .desk .last) r ∙ t .last;
+      last = ap (λ x. x .desk .last) x ∙ t .last;
       numbers = t .numbers;
     })
     (λ e.
-    let r = load-no (deskAfter calls) s w (eqb-false _ _ e) in
+    let x = load-no (deskAfter calls) s r w (eqb-false _ _ e) in
     record {
-      sheet = held-at (ap (λ r. r .desk) r) (ap (λ b. cond b (some s) (lastSheet calls)) e) (t .sheet);
+      sheet = held-at (ap (λ x. x .desk) x) (ap (λ b. cond b (some taken) (lastTaken calls)) e) (t .sheet);
       loaded = rw e (t .loaded);
-      last = ap (λ r. r .desk .last) r ∙ t .last;
+      last = ap (λ x. x .desk .last) x ∙ t .last;
       numbers = t .numbers;
     })
+  where
+    taken : Taken
+    taken = record { sheet = s; ranks = r }
 
 tied-mark : (calls : Calls) (l : List ℕ) → Tied calls → Tied (calls andThen mark l)
-unfolding deskAfter lastSheet loadedAfter markedLists numberedLists
+unfolding deskAfter lastTaken loadedAfter markedLists numberedLists
 tied-mark calls l t =
     let d = deskAfter calls in
     let k = tied-mark-no calls l t in
@@ -238,7 +252,7 @@ tied-mark calls l t =
     let r = mark-yes d l (markNoAfter calls l) k (eqb-true _ _ e) in
     let n : d .last + 1 ≡ 1 + length ls = (let q = t .last in omega arith) in
     record {
-      sheet = held-at (ap (λ r. r .desk) r) refl (held-marked d (d .last + 1) (verdictOf d l) (lastSheet calls) (t .sheet));
+      sheet = held-at (ap (λ r. r .desk) r) refl (held-marked d (d .last + 1) (verdictOf d l) (lastTaken calls) (t .sheet));
       loaded = t .loaded;
       last = ap (λ r. r .desk .last) r ∙ rw (e, length-append) (omega arith);
       numbers =
@@ -261,54 +275,57 @@ tied-mark calls l t =
     })
 
 tied : (calls : Calls) → Tied calls
-unfolding deskAfter lastSheet loadedAfter markedLists numberedLists numberFrom SheetHeld
+unfolding deskAfter lastTaken loadedAfter markedLists numberedLists numberFrom SheetHeld
 tied noCalls = record { sheet = refl; loaded = refl; last = refl; numbers = refl }
-tied (calls andThen load s w) = tied-load calls s w (tied calls)
+tied (calls andThen load s r w) = tied-load calls s r w (tied calls)
 tied (calls andThen mark l) = tied-mark calls l (tied calls)
 
 -- THE CLAUSES
 
--- the last accepted sheet is accepted, and has a valid choice
-sheet-accepted : (calls : Calls) (s : List ℕ) → lastSheet calls ≡ some s → Accepted s × Feasible (pointsOf s)
+-- the last accepted sheet is accepted, its list is right, and it has a valid choice
+sheet-accepted : (calls : Calls) (s : List ℕ) (r : Option (List ℕ)) → lastTaken calls ≡ some (record { sheet = s; ranks = r })
+    → Accepted s × RightRanks (pointCount s) r × Feasible (pointsOf s)
 unfolding SheetHeld
-sheet-accepted calls s e = let h = rw e at (tied calls .sheet) in (h .1, h .2)
+sheet-accepted calls s r e = let h = rw e at (tied calls .sheet) in (h .1, h .2, h .3)
 
 -- the desk's spare byte is 0 after any calls
 pub spare-zero : (calls : Calls) → deskAfter calls .held .spare ≡ 0
 unfolding SheetHeld
-spare-zero calls = by (lastSheet calls) (tied calls .sheet)
+spare-zero calls = by (lastTaken calls) (tied calls .sheet)
   where
-    by : (o : Option (List ℕ)) → SheetHeld (deskAfter calls) o → deskAfter calls .held .spare ≡ 0
+    by : (o : Option Taken) → SheetHeld (deskAfter calls) o → deskAfter calls .held .spare ≡ 0
     by none h = ap (λ x. x .spare) h
-    by (some s) h = ap (λ x. x .spare) (h .0)
+    by (some t) h = ap (λ x. x .spare) (h .0)
 
-load-right : (calls : Calls) (s w : List ℕ) → LoadRight calls s w
-load-right calls s w = record {
-  accepted = λ z. ap (λ r. loadOutcome (r .answer)) (load-yes d s w z);
-  zeroed = λ z. ap (λ r. workspaceAfter (loadOutcome (r .answer) .no) w) (load-yes d s w z);
-  keeps = λ z. ap (λ r. r .desk .last) (load-yes d s w z);
-  refused = λ ne. ap (λ r. loadOutcome (r .answer)) (load-no d s w ne);
+load-right : (calls : Calls) (s : List ℕ) (r : Option (List ℕ)) (w : List ℕ) → LoadRight calls s r w
+load-right calls s r w = record {
+  accepted = λ z. ap (λ r. loadOutcome (r .answer)) (load-yes d s r w z);
+  zeroed = λ z. ap (λ r. workspaceAfter (loadOutcome (r .answer) .no) w) (load-yes d s r w z);
+  keeps = λ z. ap (λ r. r .desk .last) (load-yes d s r w z);
+  refused = λ ne. ap (λ r. loadOutcome (r .answer)) (load-no d s r w ne);
   untouched = λ ne other.
-      ap (λ r. workspaceAfter (loadOutcome (r .answer) .no) w) (load-no d s w ne) ∙ untouched (loadNo s (length w)) w ne other;
+      ap (λ r. workspaceAfter (loadOutcome (r .answer) .no) w) (load-no d s r w ne) ∙ untouched (loadNo s r (length w)) w ne other;
   zeroed-61 = λ e.
-      let ne : loadNo s (length w) ≡ 0 → ⊥ = λ z. omega arith in
-      ap (λ r. workspaceAfter (loadOutcome (r .answer) .no) w) (load-no d s w ne) ∙ zeroed-61 (loadNo s (length w)) w e;
-  same-desk = λ ne. ap (λ r. r .desk) (load-no d s w ne);
+      let ne : loadNo s r (length w) ≡ 0 → ⊥ = λ z. omega arith in
+      ap (λ r. workspaceAfter (loadOutcome (r .answer) .no) w) (load-no d s r w ne) ∙ zeroed-61 (loadNo s r (length w)) w e;
+  same-desk = λ ne. ap (λ r. r .desk) (load-no d s r w ne);
 }
   where
     d : Desk
     d = deskAfter calls
 
--- a desk that holds the sheet s gives the verdict on s
-verdict-held : (d : Desk) (s l : List ℕ) → SheetHeld d (some s) → verdictOf d l ≡ verdictAt s (bestCount (pointsOf s)) l
+-- a desk that holds the sheet s, and the ranks r, gives the verdict on s by r
+verdict-held : (d : Desk) (s : List ℕ) (r : Option (List ℕ)) (l : List ℕ) → SheetHeld d (some (record { sheet = s; ranks = r }))
+    → Listed (pointCount s) l → verdictOf d l ≡ verdictAt s (rankIn r) (bestSum (pointsOf s) (rankIn r)) l
 unfolding SheetHeld verdictAt
-verdict-held d s l h =
-    ap (λ x. verdictAt (x .sheet) (x .best) l) (h .0)
-    ∙ ap (λ P. verdictBy (firstClash P (choiceOfList l)) (listCount l) (bestCount (pointsOf s))) (points-same s)
+verdict-held d s r l h f =
+    ap (λ x. verdictAt (x .sheet) (rankHeld (x .ranks)) (x .best) l) (h .0)
+    ∙ ap₂ (λ P sum. verdictBy (firstClash P (choiceOfList l)) sum (bestSum (pointsOf s) (rankIn r))) (points-same s)
+    (sum-same (rankHeld (ranksHeld s r)) (rankIn r) (pointCount s) (positions l) (f .up) (rank-held s r))
 
 marked-right : (calls : Calls) (l : List ℕ) → MarkedAfter calls l → MarkedRight calls l
 unfolding SheetHeld
-marked-right calls l z = by (lastSheet calls) refl
+marked-right calls l z = by (lastTaken calls) refl
   where
     d : Desk
     d = deskAfter calls
@@ -316,23 +333,24 @@ marked-right calls l z = by (lastSheet calls) refl
     t : Tied calls
     t = tied calls
 
-    asked : ((loadedAfter calls ≡ true) × Listed (pointsIn (lastSheet calls)) l) × ((lastNumber calls < 9999) × Unit {0})
+    asked : ((loadedAfter calls ≡ true) × Listed (pointsIn (lastTaken calls)) l) × ((lastNumber calls < 9999) × Unit {0})
     asked = none-mark _ _ _ _ .is z
 
-    by : (o : Option (List ℕ)) → lastSheet calls ≡ o → MarkedRight calls l
+    by : (o : Option Taken) → lastTaken calls ≡ o → MarkedRight calls l
     by none e = absurd (not-both (asked .0 .0) (t .loaded ∙ ap isSome e))
-    by (some s) e =
-        let h : SheetHeld d (some s) = rw e at (t .sheet) in
-        let f : Listed (pointCount s) l = rw e at (asked .0 .1) in
+    by (some x) e =
+        let h : SheetHeld d (some x) = rw e at (t .sheet) in
+        let f : Listed (pointCount (x .sheet)) l = rw e at (asked .0 .1) in
         record {
-          sheet = s;
+          sheet = x .sheet;
+          ranks = x .ranks;
           last-accepted = e;
           verdict = verdictOutcome (verdictOf d l);
           outcome =
               ap (λ r. markOutcome (r .answer)) (mark-yes d l (markNoAfter calls l) (tied-mark-no calls l t) z)
               ∙ ap (λ k. record { refused = false; no = 0; number = some (k + 1); verdict = some (verdictOutcome (verdictOf d l)) })
               (t .last);
-          right = rw (verdict-held d s l h) (verdict-right s l (h .1) f);
+          right = rw (verdict-held d (x .sheet) (x .ranks) l h f) (verdict-right (x .sheet) (x .ranks) l (h .1) f);
         }
 
 mark-right : (calls : Calls) (l : List ℕ) → MarkRight calls l
@@ -350,6 +368,6 @@ demand-three calls = record {
   numbers = tied calls .numbers;
   load = load-right calls;
   mark = mark-right calls;
-  plates = λ s e p m. plate-made-best s p (sheet-accepted calls s e .0) m;
-  some-plate = λ s e. let a = sheet-accepted calls s e in feasible-plate s (a .0) (a .1);
+  plates = λ s r e p m. plate-made-best s r p (sheet-accepted calls s r e .0) m;
+  some-plate = λ s r e. let a = sheet-accepted calls s r e in feasible-plate s r (a .0) (a .1) (a .2);
 }

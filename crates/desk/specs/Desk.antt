@@ -1,16 +1,17 @@
--- What load and mark answer and leave, on every value of the desk, reachable or not (document 01, "The desk", and document 02 (c)): the
--- promises of the two calls. Assumes nothing.
+-- What load and mark answer and leave, on every value of the desk, reachable or not (document 01, "The desk", and document 02 (c) and
+-- (e)): the promises of the calls. Assumes nothing.
 use mathlib.Core.Path.{_≡_, refl, sym}
 use mathlib.Core.Bool.{Bool, true, false, cond, not, true≢false}
-use mathlib.Core.List.{List}
+use mathlib.Core.List.{List, [], _∷_, _++_}
 use mathlib.Core.Option.{Option, none, some}
-use Prim.Native.Nat.{ℕ, _-_}
+use Prim.Native.Nat.{ℕ, zero, suc, _-_}
 use lib.Dec.{eqb}
-use lib.ListN.{length, replicate}
-use Rattle.format.specs.Sizes.{sheetRoom}
+use lib.ListN.{length, getD, replicate}
+use Rattle.format.specs.Sizes.{mostPoints, sheetRoom}
 use Rattle.format.specs.Padded.{padded}
-use Rattle.labeling.specs.Best.{bestCount}
+use Rattle.labeling.specs.Best.{bestSum}
 use Rattle.format.specs.Sheet.{pointCount, pointsOf}
+use Rattle.format.specs.RankList.{rankIn}
 use Rattle.format.specs.Answers.{Outcome, outcomeOf}
 use Rattle.format.specs.MakingQuestions.{workspaceAfter, loadNo}
 use Rattle.format.specs.Plate.{choiceOf}
@@ -18,7 +19,7 @@ use Rattle.clash.specs.declared.ClashKind.{ClashKind}
 use Rattle.clash.specs.declared.Clash.{Clash}
 use Rattle.clash.specs.declared.Clash.the-variants.{None, Between}
 use Rattle.clash.specs.FirstClash.{firstClash}
-use Rattle.desk.specs.Questions.{positions, listCount, nextNumber, markNo}
+use Rattle.desk.specs.Questions.{positions, listSum, nextNumber, markNo}
 use Rattle.desk.specs.declared.Held.{Held}
 use Rattle.desk.specs.declared.Desk.{Desk}
 use Rattle.desk.specs.declared.LoadAnswer.{LoadAnswer}
@@ -34,17 +35,35 @@ use Rattle.desk.specs.declared.Verdict.the-variants.{Valid, Clash as Cla
 unfoldable pub noSheet : List ℕ
 noSheet = replicate sheetRoom 0
 
+-- No ranks.
+unfoldable pub noRanks : List ℕ
+noRanks = replicate mostPoints 0
+
 -- What a desk without a sheet holds.
 abbrev pub nothingHeld : Held
-nothingHeld = record { sheet = noSheet; loaded = false; spare = 0; best = 0 }
+nothingHeld = record { sheet = noSheet; ranks = noRanks; loaded = false; spare = 0; best = 0 }
 
 -- "A fresh desk has no sheet and last number 0."
 abbrev pub fresh : Desk
 fresh = record { held = nothingHeld; last = 0 }
 
--- What a load of the sheet s, with this best count, puts into the desk. The desk has room for the largest sheet, zeros past the end of s.
-abbrev pub heldOf : List ℕ → ℕ → Held
-heldOf s best = record { sheet = padded sheetRoom s; loaded = true; spare = 0; best = best }
+-- The ranks of the first m positions.
+unfoldable pub ranksBelow : (ℕ → ℕ) → ℕ → List ℕ
+ranksBelow rank zero = []
+ranksBelow rank (suc m) = ranksBelow rank m ++ rank m ∷ []
+
+-- The ranks of the points of s as the desk keeps them, with the rank list r or none: zeros past the last point.
+abbrev pub ranksHeld : List ℕ → Option (List ℕ) → List ℕ
+ranksHeld s r = padded mostPoints (ranksBelow (rankIn r) (pointCount s))
+
+-- The rank of position p in the ranks that a desk keeps.
+abbrev pub rankHeld : List ℕ → ℕ → ℕ
+rankHeld ranks p = getD ranks p 0
+
+-- What a load of the sheet s, with these ranks and this best sum, puts into the desk. The desk has room for the largest sheet, zeros past
+-- the end of s.
+abbrev pub heldOf : List ℕ → List ℕ → ℕ → Held
+heldOf s ranks best = record { sheet = padded sheetRoom s; ranks = ranks; loaded = true; spare = 0; best = best }
 
 -- The desk d with something else held, and all else as it was.
 abbrev pub withHeld : Desk → Held → Desk
@@ -61,16 +80,17 @@ abbrev pub loadOutcome : LoadAnswer → Outcome
 loadOutcome Accepted = record { refused = false; no = 0 }
 loadOutcome (Refused k) = record { refused = true; no = k }
 
--- The desk d after a load of the bytes s: by cases on the answer. "A load replaces the sheet and its best count and keeps the last
--- number"; on a refusal, 61 included, the desk stays untouched.
-abbrev pub loadedDesk : LoadAnswer → Desk → List ℕ → Desk
-loadedDesk Accepted d s = withHeld d (heldOf s (bestCount (pointsOf s)))
-loadedDesk (Refused k) d s = d
+-- The desk d after a load of the bytes s with the rank list r or none: by cases on the answer. "A load replaces the sheet and its best
+-- count and keeps the last number"; the best count is the best sum (document 02 (e)); on a refusal, 61 included, the desk stays untouched.
+abbrev pub loadedDesk : LoadAnswer → Desk → List ℕ → Option (List ℕ) → Desk
+loadedDesk Accepted d s r = withHeld d (heldOf s (ranksHeld s r) (bestSum (pointsOf s) (rankIn r)))
+loadedDesk (Refused k) d s r = d
 
--- THE PROMISE of load, on any desk d, bytes s and workspace w: its answer, and what desk and workspace hold afterwards.
-pub record Loading (d : Desk) (s w : List ℕ) (r : LoadResult) (w′ : List ℕ) : Type 0 where
-  pub outcome : loadOutcome (r .answer) ≡ outcomeOf (loadNo s (length w))
-  pub desk : r .desk ≡ loadedDesk (r .answer) d s
+-- THE PROMISE of load, where l is none, and of load_ranked, where it is the list, on any desk d, bytes s, list and workspace w: the answer,
+-- and what desk and workspace hold afterwards.
+pub record Loading (d : Desk) (s : List ℕ) (l : Option (List ℕ)) (w : List ℕ) (r : LoadResult) (w′ : List ℕ) : Type 0 where
+  pub outcome : loadOutcome (r .answer) ≡ outcomeOf (loadNo s l (length w))
+  pub desk : r .desk ≡ loadedDesk (r .answer) d s l
   pub workspace : w′ ≡ workspaceAfter (loadOutcome (r .answer) .no) w
 
 -- an outcome fixes the answer, constructor and number
@@ -85,36 +105,36 @@ abbrev pub loadAnswerOf : ℕ → LoadAnswer
 loadAnswerOf k = cond (eqb k 0) Accepted (Refused k)
 
 -- What a load with this answer gives.
-abbrev pub loadResult : Desk → List ℕ → LoadAnswer → LoadResult
-loadResult d s a = record { desk = loadedDesk a d s; answer = a }
+abbrev pub loadResult : Desk → List ℕ → Option (List ℕ) → LoadAnswer → LoadResult
+loadResult d s r a = record { desk = loadedDesk a d s r; answer = a }
 
 -- THE ONE RESULT that the promise leaves (loading-exactly, of DeskLaws.antt), as a term.
-unfoldable pub loadOf : Desk → List ℕ → List ℕ → LoadResult
-loadOf d s w = loadResult d s (loadAnswerOf (loadNo s (length w)))
+unfoldable pub loadOf : Desk → List ℕ → Option (List ℕ) → List ℕ → LoadResult
+loadOf d s r w = loadResult d s r (loadAnswerOf (loadNo s r (length w)))
 
 -- MARK
 
--- What a verdict says: whether it calls the list valid; then "the list's count and its shortfall", or the "two positions" of a clash and
--- its kind.
+-- What a verdict says: whether it calls the list valid; then "the list's count and its shortfall", both sums of ranks (document 02 (e)), or
+-- the "two positions" of a clash and its kind.
 pub record VerdictOutcome : Type 0 where
   pub valid : Bool
-  pub count : Option ℕ
+  pub sum : Option ℕ
   pub shortfall : Option ℕ
   pub first : Option ℕ
   pub second : Option ℕ
   pub kind : Option ClashKind
 
 abbrev pub validOutcome : ℕ → ℕ → VerdictOutcome
-validOutcome count shortfall =
-    record { valid = true; count = some count; shortfall = some shortfall; first = none; second = none; kind = none }
+validOutcome sum shortfall =
+    record { valid = true; sum = some sum; shortfall = some shortfall; first = none; second = none; kind = none }
 
 abbrev pub clashOutcome : ℕ → ℕ → ClashKind → VerdictOutcome
 clashOutcome first second kind =
-    record { valid = false; count = none; shortfall = none; first = some first; second = some second; kind = some kind }
+    record { valid = false; sum = none; shortfall = none; first = some first; second = some second; kind = some kind }
 
 -- The cases of a verdict.
 abbrev pub verdictOutcome : Verdict → VerdictOutcome
-verdictOutcome (Valid count shortfall) = validOutcome count shortfall
+verdictOutcome (Valid sum shortfall) = validOutcome sum shortfall
 verdictOutcome (ClashVerdict first second kind) = clashOutcome first second kind
 
 -- What an answer of mark says: whether it is refused, the number of the first no (0 where nothing is refused), and the list's number and
@@ -135,19 +155,19 @@ markOutcome (RefusedMark k) = record { refused = true; no = k; number = none; ve
 abbrev pub firstNo : Desk → List ℕ → ℕ
 firstNo d l = markNo (d .held .loaded) (pointCount (d .held .sheet)) (d .last) l
 
--- The verdict by the first clash: "valid, with the list's count and its shortfall; or a clash, with two positions" and its kind. The
--- shortfall is 0 where the count exceeds the best.
+-- The verdict by the first clash: "valid, with the list's count and its shortfall; or a clash, with two positions" and its kind. The count
+-- is a sum of ranks, and the shortfall is 0 where it exceeds the best.
 abbrev pub verdictBy : Clash → ℕ → ℕ → Verdict
-verdictBy None count best = Valid count (best - count)
-verdictBy (Between first second kind) count best = ClashVerdict first second kind
+verdictBy None sum best = Valid sum (best - sum)
+verdictBy (Between first second kind) sum best = ClashVerdict first second kind
 
--- The verdict on the list l of the sheet s, where the best count is `best`.
-unfoldable pub verdictAt : List ℕ → ℕ → List ℕ → Verdict
-verdictAt s best l = verdictBy (firstClash (pointsOf s) (choiceOf (positions l))) (listCount l) best
+-- The verdict on the list l of the sheet s, where p has the rank `rank p` and the best sum is `best`.
+unfoldable pub verdictAt : List ℕ → (ℕ → ℕ) → ℕ → List ℕ → Verdict
+verdictAt s rank best l = verdictBy (firstClash (pointsOf s) (choiceOf (positions l))) (listSum rank l) best
 
 -- The verdict on the list l at this desk.
 abbrev pub verdictOf : Desk → List ℕ → Verdict
-verdictOf d l = verdictAt (d .held .sheet) (d .held .best) l
+verdictOf d l = verdictAt (d .held .sheet) (rankHeld (d .held .ranks)) (d .held .best) l
 
 -- The outcome of a mark of the list l at this desk, where the first no is k: "The answer carries the next number and a verdict"; "a refused
 -- mark carries no list number and no verdict".
@@ -173,7 +193,7 @@ pub record Marking (d : Desk) (l : List ℕ) (r : MarkResult) : Type 0 where
 -- an outcome fixes the verdict,
 pub verdict-outcome-fixes : (v u : Verdict) → verdictOutcome v ≡ verdictOutcome u → v ≡ u
 verdict-outcome-fixes (Valid n f) (Valid m g) e =
-    let p : some n ≡ some m = λ i. e i .count in
+    let p : some n ≡ some m = λ i. e i .sum in
     let q : some f ≡ some g = λ i. e i .shortfall in
     cc
 verdict-outcome-fixes (Valid n f) (ClashVerdict i j k) e = absurd (true≢false (λ t. e t .valid))

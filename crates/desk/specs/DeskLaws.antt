@@ -4,6 +4,7 @@ use mathlib.Core.Path.{_≡_, sym, ap, _∙_}
 use mathlib.Core.Bool.{Bool, true}
 use mathlib.Core.Logic.{_↔_}
 use mathlib.Core.List.{List}
+use mathlib.Core.Option.{Option}
 use Prim.Native.Nat.{ℕ, _<_}
 use lib.ListN.{length}
 use borrow.Author.Tests.{eq-eqb, ne-eqb}
@@ -26,30 +27,31 @@ use Rattle.desk.specs.declared.MarkResult.{MarkResult}
 
 -- LOAD
 
-pub load-yes : (d : Desk) (s w : List ℕ) → loadNo s (length w) ≡ 0 → loadOf d s w ≡ loadResult d s AcceptedSheet
-unfolding loadOf
-load-yes d s w e = ap (λ k. loadResult d s (loadAnswerOf k)) e
+module _ (d : Desk) (s : List ℕ) (l : Option (List ℕ)) (w : List ℕ) where
+  pub load-yes : loadNo s l (length w) ≡ 0 → loadOf d s l w ≡ loadResult d s l AcceptedSheet
+  unfolding loadOf
+  load-yes e = ap (λ k. loadResult d s l (loadAnswerOf k)) e
 
-pub load-no : (d : Desk) (s w : List ℕ) → (loadNo s (length w) ≡ 0 → ⊥) → loadOf d s w ≡ loadResult d s (Refused (loadNo s (length w)))
-unfolding loadOf
-load-no d s w ne = rw (ne-eqb (loadNo s (length w)) 0 ne)
+  pub load-no : (loadNo s l (length w) ≡ 0 → ⊥) → loadOf d s l w ≡ loadResult d s l (Refused (loadNo s l (length w)))
+  unfolding loadOf
+  load-no ne = rw (ne-eqb (loadNo s l (length w)) 0 ne)
 
 -- the outcome where the first no is k
 load-outcome : (k : ℕ) → loadOutcome (loadAnswerOf k) ≡ outcomeOf k
 load-outcome k = same k 0 (λ e. rw e) (λ ne. rw (ne-eqb k 0 ne))
 
 -- THE PROMISE LEAVES ONE RESULT
-pub loading-exactly : (d : Desk) (s w w′ : List ℕ) (r : LoadResult)
-    → Loading d s w r w′ ↔ ((r ≡ loadOf d s w) × (w′ ≡ workspaceAfter (loadOutcome (r .answer) .no) w))
+pub loading-exactly : (d : Desk) (s : List ℕ) (l : Option (List ℕ)) (w w′ : List ℕ) (r : LoadResult)
+    → Loading d s l w r w′ ↔ ((r ≡ loadOf d s l w) × (w′ ≡ workspaceAfter (loadOutcome (r .answer) .no) w))
 unfolding loadOf
-loading-exactly d s w w′ r = (
+loading-exactly d s l w w′ r = (
   λ m.
-      let a : r .answer ≡ loadAnswerOf (loadNo s (length w)) =
-      load-outcome-fixes _ _ (m .outcome ∙ sym (load-outcome (loadNo s (length w)))) in
-      ((λ i. record { desk = (m .desk ∙ ap (λ x. loadedDesk x d s) a) i; answer = a i }), m .workspace),
+      let a : r .answer ≡ loadAnswerOf (loadNo s l (length w)) =
+      load-outcome-fixes _ _ (m .outcome ∙ sym (load-outcome (loadNo s l (length w)))) in
+      ((λ i. record { desk = (m .desk ∙ ap (λ x. loadedDesk x d s l) a) i; answer = a i }), m .workspace),
   λ e. record {
-    outcome = ap (λ x. loadOutcome (x .answer)) (e .0) ∙ load-outcome (loadNo s (length w));
-    desk = ap (λ x. x .desk) (e .0) ∙ ap (λ x. loadedDesk (x .answer) d s) (sym (e .0));
+    outcome = ap (λ x. loadOutcome (x .answer)) (e .0) ∙ load-outcome (loadNo s l (length w));
+    desk = ap (λ x. x .desk) (e .0) ∙ ap (λ x. loadedDesk (x .answer) d s l) (sym (e .0));
     workspace = e .1;
   },
 )

@@ -1,22 +1,22 @@
 -- What the questions 31 to 33 ask, as facts: a list without a no is its count byte and an ascending list of positions below n, and its
--- count is the inside count of the choice that it stands for. Assumes nothing.
+-- sum is the weight of the choice that it stands for. Assumes nothing.
 use mathlib.Core.Path.{_≡_, refl, sym, ap, _∙_}
 use mathlib.Core.Bool.{true}
-use mathlib.Core.List.{List, [], _∷_}
+use mathlib.Core.List.{List, [], _∷_, _++_, append-nil}
 use Prim.Native.Nat.{ℕ, zero, suc, _+_, _<_}
 use lib.Dec.{ltb, eqb}
 use lib.ListN.{length, getD}
 use borrow.Author.Tests.{eqb-true, eqb-false, eq-eqb}
 use native.Mathlib.Omega.{arith}
 use Rattle.labeling.specs.Decide.{decide, same, Decides, dec-lt, dec-eq, dec-and, and-both, dec-true}
-use Rattle.labeling.specs.Best.{weight, count}
+use Rattle.labeling.specs.Points.{Choice}
+use Rattle.labeling.specs.Best.{weightBelow, weight}
 use Rattle.format.specs.Sheet.{pointCount, pointsOf}
 use Rattle.format.specs.Accepted.{NoneOf, none-ask, none-left}
-use Rattle.format.specs.Plate.{choiceOf}
-use Rattle.format.specs.PlateLength.{inside-length}
+use Rattle.format.specs.Plate.{choiceOf, insideBelow}
 use Rattle.format.specs.Ascending.{belowNext, ascending}
 use Rattle.format.specs.InsideList.{ascending-head, list-of-choice}
-use Rattle.desk.specs.Questions.{positions, listCount, countRight, aboveBefore, entryNo, entriesNo, listNo}
+use Rattle.desk.specs.Questions.{positions, listCount, sumOf, listSum, countRight, aboveBefore, entryNo, entriesNo, listNo}
 
 -- ENTRY BY ENTRY
 
@@ -97,11 +97,42 @@ none-list n l =
       of = λ f. d .of (f .counted, up-entries n (positions l) (f .up));
     }
 
--- the count of a list is the inside count of its choice
-pub list-count : (s l : List ℕ) → Listed (pointCount s) l → count (pointsOf s) (choiceOf (positions l)) ≡ listCount l
-unfolding count weight
-list-count s l f =
-    sym (inside-length (choiceOf (positions l)) (pointCount s)) ∙ ap length (list-of-choice (pointCount s) (positions l) (f .up))
+-- SUMS
+
+sum-append : (rank : ℕ → ℕ) (l m : List ℕ) → sumOf rank (l ++ m) ≡ sumOf rank l + sumOf rank m
+unfolding sumOf
+sum-append rank [] m = omega arith
+sum-append rank (p ∷ l) m = omega (arith, sum-append rank l m)
+
+-- one more at the end
+pub sum-last : (rank : ℕ → ℕ) (l : List ℕ) (p : ℕ) → sumOf rank (l ++ p ∷ []) ≡ sumOf rank l + rank p
+unfolding sumOf
+sum-last rank l p = omega (arith, sum-append rank l (p ∷ []))
+
+-- of the inside positions of a choice: its weight
+pub inside-sum : (rank : ℕ → ℕ) (S : Choice) (m : ℕ) → sumOf rank (insideBelow S m) ≡ weightBelow rank S m
+unfolding sumOf insideBelow weightBelow
+inside-sum rank S zero = refl
+inside-sum rank S (suc m) =
+    decide (S m)
+    (λ e. rw e (omega (arith, sum-last rank (insideBelow S m) m, inside-sum rank S m)))
+    (λ e. rw (e, append-nil) (omega (arith, inside-sum rank S m)))
+
+-- only the ranks below n matter to a list of positions below n
+pub sum-same : (rank other : ℕ → ℕ) (n : ℕ) (l : List ℕ) → ascending n l ≡ true → ((p : ℕ) → p < n → rank p ≡ other p)
+    → sumOf rank l ≡ sumOf other l
+unfolding sumOf
+sum-same rank other n [] e f = refl
+sum-same rank other n (p ∷ l) e f =
+    let h = ascending-head n p l e in omega (arith, f p (h .0), sum-same rank other n l (h .2) f)
+
+-- the sum of a list is the weight of its choice
+pub list-sum : (rank : ℕ → ℕ) (s l : List ℕ) → Listed (pointCount s) l
+    → weight (pointsOf s) rank (choiceOf (positions l)) ≡ listSum rank l
+unfolding weight
+list-sum rank s l f =
+    sym (inside-sum rank (choiceOf (positions l)) (pointCount s))
+    ∙ ap (sumOf rank) (list-of-choice (pointCount s) (positions l) (f .up))
 
 -- a choice's list, with its count byte
 pub choice-listed : (n : ℕ) (p : List ℕ) → ascending n p ≡ true → Listed n (length p ∷ p)

@@ -1,24 +1,25 @@
 -- What a desk holds of a loaded sheet, and what the plate maker's promise says of a plate: the figures of the padded bytes are the
--- sheet's, and the inside section of a made plate is a list with the best count. Assumes nothing.
+-- sheet's, the ranks are those of the list that was lent, and the inside section of a made plate is the best choice's. Assumes nothing.
 use mathlib.Core.Path.{_≡_, refl, sym, ap, ap₂, _∙_}
 use mathlib.Core.List.{List, [], _∷_, _++_, append-assoc, append-nil}
-use Prim.Native.Nat.{ℕ, _+_, _*_, _-_, _≤_}
+use mathlib.Core.Option.{Option}
+use Prim.Native.Nat.{ℕ, zero, suc, _+_, _*_, _-_, _≤_, _<_}
 use lib.Dec.{ltb}
-use lib.ListN.{length, getD, take, drop, replicate, length-replicate, getD-replicate, List·getD-append, List·getD-eq-default}
-use lib.Seq.{getD-append-add, take-at, drop-at}
+use lib.ListN.{length, getD, set, take, drop, replicate, length-append, length-replicate, getD-replicate, List·getD-append, List·getD-eq-default}
+use lib.Seq.{getD-append-add, set-at, getD-at, take-at, drop-at}
 use borrow.Author.Tests.{ltb-true, ltb-false}
 use native.Mathlib.Omega.{arith}
 use Rattle.format.specs.Sizes.{sheetRoom}
 use Rattle.format.specs.Padded.{padded}
-use Rattle.labeling.specs.Decide.{decide}
+use Rattle.labeling.specs.Decide.{decide, same}
 use Rattle.labeling.specs.Points.{Choice, outside, placed}
-use Rattle.labeling.specs.Best.{weight, count}
 use Rattle.format.specs.Sheet.{twoBytes, pointCount, pointsOf, sheetLength}
+use Rattle.format.specs.RankList.{rankIn}
 use Rattle.format.specs.Accepted.{Accepted}
 use Rattle.format.specs.Plate.{insideBelow, insideSection, outsideSection, pairs, plateOf}
-use Rattle.format.specs.PlateLength.{inside-length}
-use Rattle.plate_reader.specs.PlateQuestions.{insideCount}
+use Rattle.plate_reader.specs.PlateQuestions.{insideCount, insideStart, insideList}
 use Rattle.plate_reader.specs.PlateSections.{Parts, read-back}
+use Rattle.desk.specs.Desk.{ranksBelow, ranksHeld, rankHeld}
 use Rattle.desk.specs.Calls.{sectionRead}
 
 -- THE PADDED BYTES
@@ -60,6 +61,39 @@ points-same s = λ i. record {
 pub count-same : (s : List ℕ) → pointCount (padded sheetRoom s) ≡ pointCount s
 count-same s = byte-same s 9
 
+-- THE RANKS
+
+pub ranks-length : (rank : ℕ → ℕ) (m : ℕ) → length (ranksBelow rank m) ≡ m
+unfolding ranksBelow
+ranks-length rank zero = refl
+ranks-length rank (suc m) = omega (arith, length-append (ranksBelow rank m) (rank m ∷ []), ranks-length rank m)
+
+rank-below : (rank : ℕ → ℕ) (m p : ℕ) → p < m → getD (ranksBelow rank m) p 0 ≡ rank p
+unfolding ranksBelow
+rank-below rank zero p l = absurd (omega arith)
+rank-below rank (suc m) p l =
+    same p m
+    (λ e. rw e (getD-at (ranksBelow rank m) (rank m) [] 0 m (ranks-length rank m)))
+    (λ ne. List·getD-append (ranksBelow rank m) (rank m ∷ []) 0 p (omega (arith, ranks-length rank m)) ∙ rank-below rank m p (omega arith))
+
+-- one more is written
+pub ranks-more : (rank : ℕ → ℕ) (n m : ℕ) → m < n
+    → set (padded n (ranksBelow rank m)) m (rank m) ≡ padded n (ranksBelow rank (suc m))
+unfolding padded ranksBelow
+ranks-more rank n m l =
+    let e : n - length (ranksBelow rank m) ≡ suc (n - suc m) = omega (arith, ranks-length rank m) in
+    let q : n - length (ranksBelow rank m ++ rank m ∷ []) ≡ n - suc m =
+    omega (arith, length-append (ranksBelow rank m) (rank m ∷ []), ranks-length rank m) in
+    rw (e, q) (set-at (ranksBelow rank m) 0 (replicate (n - suc m) 0) (rank m) m (ranks-length rank m)
+    ∙ sym (append-assoc (ranksBelow rank m) (rank m ∷ []) (replicate (n - suc m) 0)))
+
+-- the rank of each point is the list's
+pub rank-held : (s : List ℕ) (r : Option (List ℕ)) (p : ℕ) → p < pointCount s → rankHeld (ranksHeld s r) p ≡ rankIn r p
+unfolding padded
+rank-held s r p l =
+    List·getD-append (ranksBelow (rankIn r) (pointCount s)) _ 0 p (omega (arith, ranks-length (rankIn r) (pointCount s)))
+    ∙ rank-below (rankIn r) (pointCount s) p l
+
 -- A PLATE AT THE START OF AN OUTPUT
 
 module _ (s : List ℕ) (S : Choice) (a : Accepted s) (rest : List ℕ) where
@@ -68,13 +102,23 @@ module _ (s : List ℕ) (S : Choice) (a : Accepted s) (rest : List ℕ) where
   unfolding plateOf insideSection outsideSection
   parts = read-back _ _ _ _ _ (a .long) (append-assoc (s ++ insideSection s S) (outsideSection s S) rest)
 
-  inside-count : length (insideBelow S (pointCount s)) ≡ count (pointsOf s) S
-  unfolding count weight
-  inside-count = inside-length S (pointCount s)
+  -- the inside positions that are read are the choice's, and they are all there
+  pub plate-inside : insideList (plateOf s S ++ rest) ≡ insideBelow S (pointCount s)
+  plate-inside = parts .inside
 
-  -- the count byte is the inside count
-  pub plate-count : insideCount (plateOf s S ++ rest) ≡ count (pointsOf s) S
-  plate-count = parts .inside-count ∙ inside-count
+  pub plate-room : insideStart (plateOf s S ++ rest) + insideCount (plateOf s S ++ rest) ≤ length (plateOf s S ++ rest)
+  unfolding plateOf insideSection
+  plate-room =
+      let I = length (insideBelow S (pointCount s)) ∷ insideBelow S (pointCount s) in
+      omega (
+        arith,
+        parts .points,
+        parts .inside-count,
+        a .long,
+        length-append (s ++ I ++ outsideSection s S) rest,
+        length-append (s ++ I) (outsideSection s S),
+        length-append s I,
+      )
 
   -- the inside section that is read is the choice's
   section-start : sectionRead (plateOf s S ++ rest) ≡ insideSection s S

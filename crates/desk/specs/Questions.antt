@@ -1,7 +1,7 @@
 -- The questions of a mark (document 01, "Questions in their order"), on any bytes, and the desk's numbering. A byte past
 -- the end of a list reads 0. Assumes nothing.
 use mathlib.Core.Bool.{Bool, true, _&&_}
-use mathlib.Core.List.{List}
+use mathlib.Core.List.{List, [], _∷_}
 use Prim.Native.Nat.{ℕ, zero, suc, _+_}
 use lib.Dec.{ltb, eqb}
 use lib.ListN.{length, getD, drop}
@@ -16,6 +16,15 @@ positions l = drop 1 l
 -- "Its count is the number of its positions."
 abbrev pub listCount : List ℕ → ℕ
 listCount l = length (positions l)
+
+-- The sum of the ranks of these positions, where p has the rank `rank p`.
+unfoldable pub sumOf : (ℕ → ℕ) → List ℕ → ℕ
+sumOf rank [] = 0
+sumOf rank (p ∷ l) = rank p + sumOf rank l
+
+-- "sums of ranks stand where it has the count of a list" (document 02 (e)): the sum of a list.
+abbrev pub listSum : (ℕ → ℕ) → List ℕ → ℕ
+listSum rank l = sumOf rank (positions l)
 
 -- "Is there a count byte, and does the length equal 1 plus it? 31."
 unfoldable pub countRight : List ℕ → Bool

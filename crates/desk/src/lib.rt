@@ -1,28 +1,28 @@
 // The marking desk.
 use clash::ClashKind;
+use format::MOST_POINTS;
 use format::SHEET_ROOM;
-use loading::blank_plate;
-use loading::held_of;
+use loading::load_with;
 use loading::nothing_held;
-use loading::refused_load;
-use loading::with_held;
 use marking::answer_to;
 use marking::first_no;
-use plate_maker::MakeAnswer;
-use plate_reader::inside_count;
 ghost use mathlib.Core.Path.{_≡_};
+ghost use mathlib.Core.Option.{none, some};
 ghost use Rattle.desk.specs.Desk.{fresh, Loading, Marking};
 
 mod loading;
 mod marking;
 mod numbering;
 mod questions;
+mod sums;
 
-// What a load puts into the desk: the bytes of the sheet, zeros past its end; whether a sheet is loaded; and its best count. The spare
-// byte stands where C's alignment would leave one unset. It is 0 in a fresh desk and in what a load puts there, and goes along otherwise.
+// What a load puts into the desk: the bytes of the sheet, zeros past its end; the ranks of its points, by position, zeros past the last;
+// whether a sheet is loaded; and its best sum of ranks. The spare byte stands where C's alignment would leave one unset. It is 0 in a fresh
+// desk and in what a load puts there, and goes along otherwise.
 #[repr(C)]
 pub struct Held {
     pub sheet: [u8; SHEET_ROOM],
+    pub ranks: [u8; MOST_POINTS],
     pub loaded: bool,
     pub spare: u8,
     pub best: u16,
@@ -41,10 +41,10 @@ pub enum LoadAnswer {
     Refused(u8),
 }
 
-// What the desk says of a marked list: valid, with its count and its shortfall; or a clash, with two positions and its kind.
+// What the desk says of a marked list: valid, with its sum of ranks and its shortfall; or a clash, with two positions and its kind.
 pub enum Verdict {
     Valid {
-        count: u16,
+        sum: u16,
         shortfall: u16,
     },
     Clash {
@@ -83,21 +83,19 @@ impl Desk {
         }
     }
 
-    // Loads a sheet: it replaces the desk's sheet and best count, and the last number is kept.
+    // Loads a sheet: it replaces the desk's sheet and best, and the last number is kept. No list is lent: every rank is 1.
     pub fn load(self, sheet: &[u8], workspace: &mut [u16]) -> LoadResult
-        ensures { λ r. ⌜ Loading self (now (sheet .entry)) (now (workspace .entry)) r (now (workspace .exit)) ⌝ }
+        ensures { λ r. ⌜ Loading self (now (sheet .entry)) none (now (workspace .entry)) r (now (workspace .exit)) ⌝ }
     {
-        let mut plate = blank_plate();
-        match plate_maker::make(sheet, &mut plate, workspace) {
-            MakeAnswer::Refused(no) => refused_load(self, no),
-            MakeAnswer::Made(_) => {
-                let best = inside_count(&plate) as u16;
-                LoadResult {
-                    desk: with_held(self, held_of(sheet, best)),
-                    answer: LoadAnswer::Accepted,
-                }
-            }
-        }
+        load_with(self, sheet, false, b"", workspace)
+    }
+
+    // Loads a sheet with the ranks of a list.
+    pub fn load_ranked(self, sheet: &[u8], ranks: &[u8], workspace: &mut [u16]) -> LoadResult
+        ensures { λ r. ⌜ Loading self (now (sheet .entry)) (some (now (ranks .entry))) (now (workspace .entry)) r
+            (now (workspace .exit)) ⌝ }
+    {
+        load_with(self, sheet, true, ranks, workspace)
     }
 
     // Marks a list: it takes the next number and gets a verdict.

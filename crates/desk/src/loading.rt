@@ -3,14 +3,20 @@ use crate::Desk;
 use crate::Held;
 use crate::LoadAnswer;
 use crate::LoadResult;
+use crate::sums::inside_sum;
+use format::MOST_POINTS;
 use format::PLATE_ROOM;
 use format::SHEET_ROOM;
+use plate_maker::MakeAnswer;
+use rank_list::rank_of;
 ghost use mathlib.Core.Path.{_≡_};
 ghost use Prim.Native.Nat.{_≤_};
 ghost use lib.ListN.{length};
 ghost use Rattle.format.specs.Padded.{padded};
-ghost use Rattle.format.specs.Sizes.{sheetRoom};
-ghost use Rattle.desk.specs.Desk.{noSheet, nothingHeld, heldOf, withHeld};
+ghost use Rattle.format.specs.Sizes.{mostPoints, sheetRoom};
+ghost use Rattle.format.specs.RankList.{rankIn, lent};
+ghost use Rattle.plate_maker.specs.Making.{Making};
+ghost use Rattle.desk.specs.Desk.{noSheet, noRanks, nothingHeld, ranksBelow, heldOf, withHeld, Loading};
 ghost use Rattle.desk.specs.Blank.{blankPlate};
 
 // The bytes of no sheet.
@@ -20,12 +26,20 @@ fn no_sheet() -> [u8; SHEET_ROOM]
     [0u8; SHEET_ROOM]
 }
 
+// No ranks.
+fn no_ranks() -> [u8; MOST_POINTS]
+    ensures { λ r. ⌜ r ≡ noRanks ⌝ }
+{
+    [0u8; MOST_POINTS]
+}
+
 // What a desk without a sheet holds.
 pub(crate) fn nothing_held() -> Held
     ensures { λ r. ⌜ r ≡ nothingHeld ⌝ }
 {
     Held {
         sheet: no_sheet(),
+        ranks: no_ranks(),
         loaded: false,
         spare: 0,
         best: 0,
@@ -46,20 +60,35 @@ fn padded_sheet(sheet: &[u8]) -> [u8; SHEET_ROOM]
     bytes
 }
 
+// The ranks of n points, by position, and zeros past them.
+fn padded_ranks(ranked: bool, ranks: &[u8], n: u8) -> [u8; MOST_POINTS]
+    requires { ⌜ n ≤ mostPoints ⌝ }
+    ensures { λ r. ⌜ r ≡ padded mostPoints (ranksBelow (rankIn (lent ranked (now (ranks .entry)))) n) ⌝ }
+{
+    let mut bytes = no_ranks();
+    let mut position: u8 = 0;
+    while position < n {
+        bytes[position as usize] = rank_of(ranked, ranks, position);
+        position += 1;
+    }
+    bytes
+}
+
 // A buffer with room for the largest plate.
-pub(crate) fn blank_plate() -> [u8; PLATE_ROOM]
+fn blank_plate() -> [u8; PLATE_ROOM]
     ensures { λ r. ⌜ r ≡ blankPlate ⌝ }
 {
     [0u8; PLATE_ROOM]
 }
 
-// What a load of this sheet, with this best count, puts into the desk.
-pub(crate) fn held_of(sheet: &[u8], best: u16) -> Held
+// What a load of this sheet, with these ranks and this best sum, puts into the desk.
+fn held_of(sheet: &[u8], ranks: [u8; MOST_POINTS], best: u16) -> Held
     requires { ⌜ length (now sheet) ≤ sheetRoom ⌝ }
-    ensures { λ r. ⌜ r ≡ heldOf (now (sheet .entry)) best ⌝ }
+    ensures { λ r. ⌜ r ≡ heldOf (now (sheet .entry)) ranks best ⌝ }
 {
     Held {
         sheet: padded_sheet(sheet),
+        ranks,
         loaded: true,
         spare: 0,
         best,
@@ -67,7 +96,7 @@ pub(crate) fn held_of(sheet: &[u8], best: u16) -> Held
 }
 
 // The desk with something else held, and all else as it was.
-pub(crate) fn with_held(desk: Desk, held: Held) -> Desk
+fn with_held(desk: Desk, held: Held) -> Desk
     ensures { λ r. ⌜ r ≡ withHeld desk held ⌝ }
 {
     let mut next = desk;
@@ -76,11 +105,53 @@ pub(crate) fn with_held(desk: Desk, held: Held) -> Desk
 }
 
 // A refused load: the desk is as it was.
-pub(crate) fn refused_load(desk: Desk, no: u8) -> LoadResult
+fn refused_load(desk: Desk, no: u8) -> LoadResult
     ensures { λ r. ⌜ (r .desk ≡ desk) × (r .answer ≡ LoadAnswer.Refused no) ⌝ }
 {
     LoadResult {
         desk,
         answer: LoadAnswer::Refused(no),
+    }
+}
+
+// Makes the best plate of the sheet, by the rank list if one is lent.
+fn make_with(
+    sheet: &[u8],
+    ranked: bool,
+    ranks: &[u8],
+    plate: &mut [u8],
+    workspace: &mut [u16],
+) -> MakeAnswer
+    ensures { λ r. ⌜ Making (now (sheet .entry)) (lent ranked (now (ranks .entry))) (now (plate .entry)) (now (workspace .entry))
+        r (now (plate .exit)) (now (workspace .exit)) ⌝ }
+{
+    if ranked {
+        return plate_maker::make_ranked(sheet, ranks, plate, workspace);
+    }
+    plate_maker::make(sheet, plate, workspace)
+}
+
+// Loads a sheet, with the ranks of the list if one is lent: its best sum is that of the inside positions of its best plate.
+pub(crate) fn load_with(
+    desk: Desk,
+    sheet: &[u8],
+    ranked: bool,
+    ranks: &[u8],
+    workspace: &mut [u16],
+) -> LoadResult
+    ensures { λ r. ⌜ Loading desk (now (sheet .entry)) (lent ranked (now (ranks .entry))) (now (workspace .entry)) r
+        (now (workspace .exit)) ⌝ }
+{
+    let mut plate = blank_plate();
+    match make_with(sheet, ranked, ranks, &mut plate, workspace) {
+        MakeAnswer::Refused(no) => refused_load(desk, no),
+        MakeAnswer::Made(_) => {
+            let held = padded_ranks(ranked, ranks, format::point_count(sheet));
+            let best = inside_sum(&held, &plate);
+            LoadResult {
+                desk: with_held(desk, held_of(sheet, held, best)),
+                answer: LoadAnswer::Accepted,
+            }
+        }
     }
 }

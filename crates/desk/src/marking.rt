@@ -5,30 +5,31 @@ use crate::MarkResult;
 use crate::Verdict;
 use crate::numbering::next_number;
 use crate::questions::mark_no;
+use crate::sums::sum_of;
 use clash::Clash;
 use clash::ClashKind;
 ghost use mathlib.Core.Path.{_≡_};
 ghost use Prim.Native.Nat.{_-_};
-ghost use Rattle.desk.specs.Questions.{listCount};
+ghost use Rattle.desk.specs.Questions.{listSum};
 ghost use Rattle.desk.specs.Lists.{Counted};
-ghost use Rattle.desk.specs.Desk.{verdictAt, verdictOf, firstNo, Marking, markResult};
+ghost use Rattle.desk.specs.Desk.{rankHeld, verdictAt, verdictOf, firstNo, Marking, markResult};
 
-// The count of a list whose count byte is right.
-fn list_count(list: &[u8]) -> u16
+// The sum of the ranks of a list whose count byte is right.
+fn list_sum(ranks: &[u8], list: &[u8]) -> u16
     requires { ⌜ Counted (now list) ⌝ }
-    ensures { λ r. ⌜ r ≡ listCount (now (list .entry)) ⌝ }
+    ensures { λ r. ⌜ r ≡ listSum (rankHeld (now (ranks .entry))) (now (list .entry)) ⌝ }
 {
-    list[0] as u16
+    sum_of(ranks, &list[1..])
 }
 
-// The best less the count, 0 where the count exceeds it.
-fn shortfall_of(count: u16, best: u16) -> u16
-    ensures { λ r. ⌜ r ≡ best - count ⌝ }
+// The best less the sum, 0 where the sum exceeds it.
+fn shortfall_of(sum: u16, best: u16) -> u16
+    ensures { λ r. ⌜ r ≡ best - sum ⌝ }
 {
-    if best < count {
+    if best < sum {
         return 0;
     }
-    best - count
+    best - sum
 }
 
 // The verdict that names a clash.
@@ -42,10 +43,10 @@ fn clash_named(first: u8, second: u8, kind: ClashKind) -> Verdict
     }
 }
 
-// The verdict on a list whose count byte is right, of a sheet with this best count.
-fn verdict_at(sheet: &[u8], best: u16, list: &[u8]) -> Verdict
+// The verdict on a list whose count byte is right, of a sheet with these ranks and this best sum.
+fn verdict_at(sheet: &[u8], ranks: &[u8], best: u16, list: &[u8]) -> Verdict
     requires { ⌜ Counted (now list) ⌝ }
-    ensures { λ r. ⌜ r ≡ verdictAt (now (sheet .entry)) best (now (list .entry)) ⌝ }
+    ensures { λ r. ⌜ r ≡ verdictAt (now (sheet .entry)) (rankHeld (now (ranks .entry))) best (now (list .entry)) ⌝ }
 {
     match clash::first_clash(sheet, &list[1..]) {
         Clash::Between {
@@ -54,10 +55,10 @@ fn verdict_at(sheet: &[u8], best: u16, list: &[u8]) -> Verdict
             kind,
         } => clash_named(first, second, kind),
         Clash::None => {
-            let count = list_count(list);
+            let sum = list_sum(ranks, list);
             Verdict::Valid {
-                count,
-                shortfall: shortfall_of(count, best),
+                sum,
+                shortfall: shortfall_of(sum, best),
             }
         }
     }
@@ -69,7 +70,8 @@ fn verdict_of(desk: Desk, list: &[u8]) -> Verdict
     ensures { λ r. ⌜ r ≡ verdictOf desk (now (list .entry)) ⌝ }
 {
     let sheet = desk.held.sheet;
-    verdict_at(&sheet, desk.held.best, list)
+    let ranks = desk.held.ranks;
+    verdict_at(&sheet, &ranks, desk.held.best, list)
 }
 
 // A marked list: the desk with its number as the last one, and the answer.

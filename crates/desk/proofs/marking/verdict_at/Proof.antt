@@ -26,8 +26,8 @@ clash-named-requires c κs = search needs
 enum-told : tie.Need-enum-told
 enum-told c = search needs
 
-list-count-requires : tie.Need-list-count-requires
-list-count-requires c κs = search needs
+list-sum-requires : tie.Need-list-sum-requires
+list-sum-requires c κs = search needs
 
 shortfall-of-requires : tie.Need-shortfall-of-requires
 shortfall-of-requires c κs = search needs
@@ -35,12 +35,12 @@ shortfall-of-requires c κs = search needs
 returns : tie.Need-returns
 returns c =
     c .clash-named .ensures
-    ∙ verdict-clash _ _ _ _ (c .before .before .before .before .first-clash .ensures) (c .before .before .first .given .1)
+    ∙ verdict-clash _ _ _ _ _ (c .before .before .before .before .first-clash .ensures) (c .before .before .first .given .1)
 
 returns-2 : tie.Need-returns-2
 returns-2 c =
-    verdict-valid _ _ _ _ (c .before .before .before .before .first-clash .ensures)
-    (c .before .before .enum-told .given .1) (c .before .list-count .ensures) (c .shortfall-of .ensures)
+    verdict-valid _ _ _ _ _ (c .before .before .before .before .first-clash .ensures)
+    (c .before .before .enum-told .given .1) (c .before .list-sum .ensures) (c .shortfall-of .ensures)
 
 pub verdict-at-spec : {M : Type 1} → statement M
 verdict-at-spec =
@@ -53,7 +53,7 @@ verdict-at-spec =
     enum-known-first
     clash-named-requires
     enum-told
-    list-count-requires
+    list-sum-requires
     shortfall-of-requires
     returns
     returns-2)
