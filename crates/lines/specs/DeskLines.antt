@@ -1,4 +1,4 @@
--- The lines of a refusal and of the desk's answers: `refused K`, `loaded N BEST`, `NUMBER valid COUNT SHORTFALL` and
+-- The lines of a refusal and of the desk's answers: `refused K`, `loaded N BEST`, `NUMBER valid SUM SHORTFALL` and
 -- `NUMBER clash FIRST SECOND KIND`. Assumes nothing.
 use mathlib.Core.List.{List, _++_}
 use Prim.Native.Nat.{ℕ}
@@ -18,7 +18,7 @@ use Rattle.lines.specs.Text.{ascii, decimal, spaced}
 unfoldable pub refusalLine : ℕ → List ℕ
 refusalLine k = ascii "refused" ++ spaced k ++ ascii "\n"
 
--- The line of an accepted sheet: the point count and the best count of the desk that has it.
+-- The line of an accepted sheet: the point count and the best sum of the desk that has it.
 unfoldable pub loadedLine : Desk → List ℕ
 loadedLine d = ascii "loaded" ++ spaced (pointCount (d .held .sheet)) ++ spaced (d .held .best) ++ ascii "\n"
 
@@ -35,16 +35,16 @@ kindWord LabelAndLeader = ascii " leader"
 kindWord Overhang = ascii " overhang"
 kindWord TwoLeaders = ascii " leaders"
 
--- "valid, with the list's count and its shortfall"
+-- "valid, with the list's count and its shortfall", both sums of ranks (document 02 (e))
 unfoldable pub validText : ℕ → ℕ → List ℕ
-validText count shortfall = ascii " valid" ++ spaced count ++ spaced shortfall
+validText sum shortfall = ascii " valid" ++ spaced sum ++ spaced shortfall
 
 -- "a clash, with two positions" and its kind
 unfoldable pub clashText : ℕ → ℕ → ClashKind → List ℕ
 clashText first second kind = ascii " clash" ++ spaced first ++ spaced second ++ kindWord kind
 
 abbrev pub verdictText : Verdict → List ℕ
-verdictText (Valid count shortfall) = validText count shortfall
+verdictText (Valid sum shortfall) = validText sum shortfall
 verdictText (Clash first second kind) = clashText first second kind
 
 -- The line of a marked list: "The answer carries the next number and a verdict".

@@ -3,6 +3,7 @@ use mathlib.Core.Path.{_≡_, refl}
 use mathlib.Core.Bool.{Bool, true, _&&_}
 use mathlib.Core.List.{List, [], _∷_, _++_}
 use Prim.Native.Nat.{ℕ}
+use lib.ListN.{replicate}
 use Rattle.labeling.specs.Points.{among}
 use Rattle.labeling.specs.Decide.{and-left, and-right}
 use Rattle.format.specs.Bytes.{sameBytes, dec-bytes}
@@ -76,13 +77,17 @@ pub refused-16 : refusalLine 16 ≡ ascii "refused 16\n"
 unfolding decimalIn decimal spaced refusalLine
 refused-16 = refl
 
--- A desk with a sheet of 12 points whose best count is 10.
+-- A desk with a sheet of 12 points whose best sum is 10, and one of 32 points of rank 9 that are all inside.
 abbrev twelve : Desk
-twelve = withHeld fresh (heldOf (1 ∷ 20 ∷ 0 ∷ 10 ∷ 0 ∷ 4 ∷ 0 ∷ 2 ∷ 0 ∷ 12 ∷ []) 10)
+twelve = withHeld fresh (heldOf (1 ∷ 20 ∷ 0 ∷ 10 ∷ 0 ∷ 4 ∷ 0 ∷ 2 ∷ 0 ∷ 12 ∷ []) (replicate 32 1) 10)
 
-pub load-lines : (loadLine Accepted twelve ≡ ascii "loaded 12 10\n") × (loadLine (Refused 22) twelve ≡ ascii "refused 22\n")
+abbrev greatest : Desk
+greatest = withHeld fresh (heldOf (1 ∷ 20 ∷ 0 ∷ 10 ∷ 0 ∷ 4 ∷ 0 ∷ 2 ∷ 0 ∷ 32 ∷ []) (replicate 32 9) 288)
+
+pub load-lines : (loadLine Accepted twelve ≡ ascii "loaded 12 10\n") × (loadLine Accepted greatest ≡ ascii "loaded 32 288\n")
+    × (loadLine (Refused 22) twelve ≡ ascii "refused 22\n") × (loadLine (Refused 62) twelve ≡ ascii "refused 62\n")
 unfolding padded decimalIn decimal spaced refusalLine loadedLine
-load-lines = (refl, refl)
+load-lines = (refl, refl, refl, refl)
 
 -- "On P1, a fresh desk gives list 02 01 02 number 1, count 2, shortfall 0; 01 00 number 2, clash of 0 and 1; 00 number 3, shortfall 2."
 pub mark-lines :
@@ -92,6 +97,8 @@ pub mark-lines :
     (markLine (Marked 120 (Clash 9 31 Labels)) ≡ ascii "120 clash 9 31 labels\n") ×
     (markLine (Marked 4 (Clash 0 0 Overhang)) ≡ ascii "4 clash 0 0 overhang\n") ×
     (markLine (Marked 5 (Clash 0 1 TwoLeaders)) ≡ ascii "5 clash 0 1 leaders\n") ×
+    (markLine (Marked 6 (Valid 288 0)) ≡ ascii "6 valid 288 0\n") ×
+    (markLine (Marked 7 (Valid 0 288)) ≡ ascii "7 valid 0 288\n") ×
     (markLine (RefusedMark 51) ≡ ascii "refused 51\n")
 unfolding decimalIn decimal spaced refusalLine validText clashText markedLine
-mark-lines = (refl, refl, refl, refl, refl, refl, refl)
+mark-lines = (refl, refl, refl, refl, refl, refl, refl, refl, refl)

@@ -21,7 +21,7 @@ pub(crate) fn put_refusal(text: &mut [u8], no: u8) -> usize
     put_end(text, refused)
 }
 
-// Point count and best count of the desk's sheet.
+// Point count and best sum of the desk's sheet.
 pub(crate) fn put_loaded(text: &mut [u8], desk: Desk) -> usize
     requires { ⌜ 19 ≤ length (now text) ⌝ }
     ensures { λ r. ⌜ Put 19 (now (text .entry)) 0 (loadedLine desk) r (now (text .exit)) ⌝ }
@@ -45,13 +45,13 @@ fn put_kind(text: &mut [u8], at: usize, kind: ClashKind) -> usize
     }
 }
 
-fn put_valid(text: &mut [u8], at: usize, count: u16, shortfall: u16) -> usize
+fn put_valid(text: &mut [u8], at: usize, sum: u16, shortfall: u16) -> usize
     requires { ⌜ at + verdictRoom ≤ length (now text) ⌝ }
-    ensures { λ r. ⌜ Put verdictRoom (now (text .entry)) at (validText count shortfall) r (now (text .exit)) ⌝ }
+    ensures { λ r. ⌜ Put verdictRoom (now (text .entry)) at (validText sum shortfall) r (now (text .exit)) ⌝ }
 {
     let word = put_word(text, at, b" valid");
-    let counted = put_number(text, word, count);
-    put_number(text, counted, shortfall)
+    let summed = put_number(text, word, sum);
+    put_number(text, summed, shortfall)
 }
 
 fn put_clash(text: &mut [u8], at: usize, first: u8, second: u8, kind: ClashKind) -> usize
@@ -69,7 +69,7 @@ fn put_verdict(text: &mut [u8], at: usize, verdict: Verdict) -> usize
     ensures { λ r. ⌜ Put verdictRoom (now (text .entry)) at (verdictText verdict) r (now (text .exit)) ⌝ }
 {
     match verdict {
-        Verdict::Valid { count, shortfall } => put_valid(text, at, count, shortfall),
+        Verdict::Valid { sum, shortfall } => put_valid(text, at, sum, shortfall),
         Verdict::Clash {
             first,
             second,

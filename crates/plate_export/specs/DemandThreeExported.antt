@@ -3,6 +3,7 @@
 use mathlib.Core.Path.{_≡_, refl, sym, ap, _∙_}
 use mathlib.Core.Bool.{false}
 use mathlib.Core.List.{List}
+use mathlib.Core.Option.{Option}
 use Prim.Native.Nat.{ℕ}
 use lib.ListN.{length, take}
 use Rattle.format.specs.MakingQuestions.{makingNo}
@@ -19,9 +20,9 @@ use Rattle.plate_export.specs.declared.MakeResult.{MakeResult}
 use Rattle.plate_export.specs.Exported.{MakingExported}
 use Rattle.plate_export.specs.ExportedDesk.{loadReply, answerReply, markReply}
 
--- The desk that a call hands back: the terms of the contracts of desk_load and desk_mark.
+-- The desk that a call hands back: the terms of the contracts of desk_load and desk_load_ranked, by whether a list is lent, and of desk_mark.
 abbrev pub handedBack : Desk → Call → Desk
-handedBack d (load s w) = loadReply (loadOf d s w) .desk
+handedBack d (load s r w) = loadReply (loadOf d s r w) .desk
 handedBack d (mark l) = markReply (markOf d l) .desk
 
 -- The desk after these exported calls: desk_new's at first, and each call gets the one that the call before it handed back.
@@ -31,7 +32,7 @@ exportedAfter (calls andThen c) = handedBack (exportedAfter calls) c
 
 -- the desk in a mark's reply is the one handed back, whatever the answer
 reply-desk : (d : Desk) (a : MarkAnswer) → answerReply d a .desk ≡ d
-reply-desk d (Marked k (Valid count shortfall)) = refl
+reply-desk d (Marked k (Valid sum shortfall)) = refl
 reply-desk d (Marked k (Clash first second kind)) = refl
 reply-desk d (Refused k) = refl
 
@@ -39,7 +40,7 @@ reply-desk d (Refused k) = refl
 pub exported-desk-after : (calls : Calls) → exportedAfter calls ≡ deskAfter calls
 unfolding exportedAfter deskAfter
 exported-desk-after noCalls = refl
-exported-desk-after (calls andThen load s w) = ap (λ d. handedBack d (load s w)) (exported-desk-after calls)
+exported-desk-after (calls andThen load s r w) = ap (λ d. handedBack d (load s r w)) (exported-desk-after calls)
 exported-desk-after (calls andThen mark l) =
     ap (λ d. handedBack d (mark l)) (exported-desk-after calls) ∙ reply-desk _ (markOf (deskAfter calls) l .answer)
 
@@ -47,11 +48,11 @@ exported-desk-after (calls andThen mark l) =
 pub spare-zero : (calls : Calls) → exportedAfter calls .held .spare ≡ 0
 spare-zero calls = ap (λ d. d .held .spare) (exported-desk-after calls) ∙ desk-spare-zero calls
 
--- Where plate_make's number is 0, what it wrote is a plate made, in the words of demand 3.
-pub exported-plate-made : {s o w o′ w′ : List ℕ} (r : MakeResult) → MakingExported s o w r o′ w′ → r .number ≡ 0
-    → PlateMade s (take (r .written) o′)
-exported-plate-made {s} {o} {w} {o′} {w′} r m z =
-    let y : 0 ≡ makingNo s (length o) (length w) = sym z ∙ m .first-no in
+-- Where the number of plate_make or plate_make_ranked is 0, what it wrote is a plate made, in the words of demand 3.
+pub exported-plate-made : {s : List ℕ} {l : Option (List ℕ)} {o w o′ w′ : List ℕ} (r : MakeResult) → MakingExported s l o w r o′ w′
+    → r .number ≡ 0 → PlateMade s l (take (r .written) o′)
+exported-plate-made {s} {l} {o} {w} {o′} {w′} r m z =
+    let y : 0 ≡ makingNo s l (length o) (length w) = sym z ∙ m .first-no in
     record {
       output = o;
       workspace = w;
@@ -59,7 +60,7 @@ exported-plate-made {s} {o} {w} {o′} {w′} r m z =
       output-after = o′;
       workspace-after = w′;
       made = record {
-        outcome = rw (← y) (ap (λ n. record { refused = false; no = 0; written = n }) (m .length ∙ ap (λ k. makeOutcomeOf s k .written) z));
+        outcome = rw (← y) (ap (λ n. record { refused = false; no = 0; written = n }) (m .length ∙ ap (λ k. makeOutcomeOf s l k .written) z));
         workspace = rw (← m .first-no) (m .workspace);
         output = rw (← m .first-no) (m .output);
       };

@@ -2,6 +2,7 @@
 use mathlib.Core.Path.{_≡_, refl, sym, ap, _∙_}
 use mathlib.Core.Bool.{false}
 use mathlib.Core.List.{List}
+use mathlib.Core.Option.{Option}
 use Prim.Native.Nat.{ℕ}
 use lib.Dec.{eqb}
 use lib.ListN.{length}
@@ -18,13 +19,19 @@ use Rattle.plate_maker.specs.declared.MakeAnswer.the-variants.{Made, Refused}
 use Rattle.plate_export.specs.declared.MakeResult.{MakeResult}
 use Rattle.plate_export.specs.declared.ReadResult.{ReadResult}
 
--- plate_make: make's promise, with the answer as the numbers of its outcome.
-pub record MakingExported (s o w : List ℕ) (r : MakeResult) (o′ w′ : List ℕ) : Type 0 where
-  pub first-no : r .number ≡ makingNo s (length o) (length w)
+-- A making's answer as numbers.
+abbrev pub makeReply : MakeAnswer → MakeResult
+makeReply (Made written) = record { number = 0; spare = 0; written = written }
+makeReply (Refused k) = record { number = k; spare = 0; written = 0 }
+
+-- plate_make and plate_make_ranked: the promise of make and make_ranked, with the answer as the numbers of its outcome. l is the rank list,
+-- or none.
+pub record MakingExported (s : List ℕ) (l : Option (List ℕ)) (o w : List ℕ) (r : MakeResult) (o′ w′ : List ℕ) : Type 0 where
+  pub first-no : r .number ≡ makingNo s l (length o) (length w)
   pub spare : r .spare ≡ 0
-  pub length : r .written ≡ makeOutcomeOf s (r .number) .written
+  pub length : r .written ≡ makeOutcomeOf s l (r .number) .written
   pub workspace : w′ ≡ workspaceAfter (r .number) w
-  pub output : o′ ≡ outputAfter (r .number) s o
+  pub output : o′ ≡ outputAfter (r .number) s l o
 
 -- plate_read: the first no, and the stretch that the reader hands back.
 pub record ReadingExported (p : List ℕ) (r : ReadResult) : Type 0 where
@@ -53,28 +60,23 @@ exported-refused-plate p a k e q =
 
 -- FROM MAKE'S PROMISE
 
-pub exported-made : {s o w o′ w′ : List ℕ} {k : ℕ} (a : MakeAnswer) → Making s o w a o′ w′ → a ≡ Made k
-    → MakingExported s o w (record { number = 0; spare = 0; written = k }) o′ w′
-exported-made {s} {o} {w} {o′} {w′} {k} a m e =
-    let m′ : Making s o w (Made k) o′ w′ = rw e at m in
-    let z : 0 ≡ makingNo s (length o) (length w) = λ i. m′ .outcome i .no in
+pub exported-making : {s : List ℕ} {l : Option (List ℕ)} {o w o′ w′ : List ℕ} (a : MakeAnswer) → Making s l o w a o′ w′
+    → MakingExported s l o w (makeReply a) o′ w′
+exported-making {s} {l} {o} {w} (Made k) m =
+    let z : 0 ≡ makingNo s l (length o) (length w) = λ i. m .outcome i .no in
     record {
       first-no = z;
       spare = refl;
-      length = (λ i. m′ .outcome i .written) ∙ ap (λ (n : ℕ). makeOutcomeOf s n .written) (sym z);
-      workspace = making-workspace m′;
-      output = made-output m′;
+      length = (λ i. m .outcome i .written) ∙ ap (λ (n : ℕ). makeOutcomeOf s l n .written) (sym z);
+      workspace = making-workspace m;
+      output = made-output m;
     }
-
-pub exported-refused : {s o w o′ w′ : List ℕ} {k : ℕ} (a : MakeAnswer) → Making s o w a o′ w′ → a ≡ Refused k
-    → MakingExported s o w (record { number = k; spare = 0; written = 0 }) o′ w′
-exported-refused {s} {o} {w} {o′} {w′} {k} a m e =
-    let m′ : Making s o w (Refused k) o′ w′ = rw e at m in
-    let z : k ≡ makingNo s (length o) (length w) = λ i. m′ .outcome i .no in
+exported-making {s} {l} {o} {w} (Refused k) m =
+    let z : k ≡ makingNo s l (length o) (length w) = λ i. m .outcome i .no in
     record {
       first-no = z;
       spare = refl;
-      length = (λ i. m′ .outcome i .written) ∙ ap (λ (n : ℕ). makeOutcomeOf s n .written) (sym z);
-      workspace = making-workspace m′;
-      output = rw z (m′ .output);
+      length = (λ i. m .outcome i .written) ∙ ap (λ (n : ℕ). makeOutcomeOf s l n .written) (sym z);
+      workspace = making-workspace m;
+      output = rw z (m .output);
     }

@@ -1,6 +1,7 @@
 -- What the desk's exported calls answer, in the definitions of the crate desk. Assumes nothing.
 use mathlib.Core.Path.{_≡_, sym, ap, _∙_}
 use mathlib.Core.List.{List}
+use mathlib.Core.Option.{Option}
 use Prim.Native.Nat.{ℕ}
 use Rattle.clash.specs.declared.ClashKind.{ClashKind}
 use Rattle.clash.specs.declared.ClashKind.the-variants.{Labels, LabelAndLeader, Overhang, TwoLeaders}
@@ -34,15 +35,15 @@ kindNumber TwoLeaders = 5
 
 -- A list with this number and verdict.
 abbrev pub verdictReply : Desk → ℕ → Verdict → DeskMarkResult
-verdictReply d number (Valid count shortfall) =
-    record { desk = d; number = 0; «list_number» = number; verdict = 1; count = count; shortfall = shortfall; first = 0; second = 0 }
+verdictReply d number (Valid sum shortfall) =
+    record { desk = d; number = 0; «list_number» = number; verdict = 1; sum = sum; shortfall = shortfall; first = 0; second = 0 }
 verdictReply d number (Clash first second kind) =
     record {
       desk = d;
       number = 0;
       «list_number» = number;
       verdict = kindNumber kind;
-      count = 0;
+      sum = 0;
       shortfall = 0;
       first = first;
       second = second;
@@ -51,7 +52,7 @@ verdictReply d number (Clash first second kind) =
 -- The cases of mark's answer, at the desk d after it.
 abbrev pub answerReply : Desk → MarkAnswer → DeskMarkResult
 answerReply d (Marked number verdict) = verdictReply d number verdict
-answerReply d (Refused k) = record { desk = d; number = k; «list_number» = 0; verdict = 0; count = 0; shortfall = 0; first = 0; second = 0 }
+answerReply d (Refused k) = record { desk = d; number = k; «list_number» = 0; verdict = 0; sum = 0; shortfall = 0; first = 0; second = 0 }
 
 -- A mark's result.
 abbrev pub markReply : MarkResult → DeskMarkResult
@@ -59,13 +60,13 @@ markReply r = answerReply (r .desk) (r .answer)
 
 -- FROM THE CONTRACTS OF LOAD AND MARK
 
-pub load-replied : (d : Desk) (s w w′ : List ℕ) (r : LoadResult) (k : ℕ) →
-    Loading d s w r w′ →
-    loadOutcome (r .answer) .no ≡ k →
-    (record { desk = r .desk; number = k } ≡ loadReply (loadOf d s w)) × (w′ ≡ workspaceAfter k w)
-load-replied d s w w′ r k q n = (
-  ap (λ (m : ℕ). record { desk = r .desk; number = m }) (sym n) ∙ ap loadReply (loading-exactly d s w w′ r .0 q .0),
-  q .workspace ∙ ap (λ (m : ℕ). workspaceAfter m w) n,
+pub load-replied : (d : Desk) (s : List ℕ) (l : Option (List ℕ)) (w w′ : List ℕ) (r : LoadResult) (k : ℕ) →
+    Loading d s l w r w′ →
+    k ≡ loadOutcome (r .answer) .no →
+    (record { desk = r .desk; number = k } ≡ loadReply (loadOf d s l w)) × (w′ ≡ workspaceAfter k w)
+load-replied d s l w w′ r k q n = (
+  ap (λ (m : ℕ). record { desk = r .desk; number = m }) n ∙ ap loadReply (loading-exactly d s l w w′ r .0 q .0),
+  q .workspace ∙ ap (λ (m : ℕ). workspaceAfter m w) (sym n),
 )
 
 pub mark-replied : (d : Desk) (l : List ℕ) (r : MarkResult) (x : MarkAnswer) (t : DeskMarkResult) →

@@ -1,11 +1,12 @@
 // The calls for other languages, over numbers, slices and plain structs. No byte of a struct is left unset: a spare field stands where C's
 // alignment would leave some. It is 0 in what is returned, in a desk after any calls from desk_new on.
 ghost use mathlib.Core.Path.{_≡_};
+ghost use mathlib.Core.Option.{none, some};
 ghost use Rattle.format.specs.Sheet.{sheetNo};
 ghost use Rattle.format.specs.MakingQuestions.{workspaceAfter};
-ghost use Rattle.desk.specs.Desk.{fresh, loadOf, markOf};
+ghost use Rattle.desk.specs.Desk.{fresh, loadOutcome, loadOf, markOf};
 ghost use Rattle.lines.specs.Writing.{PrintsListing};
-ghost use Rattle.plate_export.specs.Exported.{MakingExported, ReadingExported};
+ghost use Rattle.plate_export.specs.Exported.{makeReply, MakingExported, ReadingExported};
 ghost use Rattle.plate_export.specs.ExportedDesk.{loadReply, kindNumber, verdictReply, markReply};
 use clash::ClashKind;
 use desk::Desk;
@@ -27,7 +28,7 @@ pub extern "C" fn plate_check_sheet(sheet: &[u8]) -> u32
     }
 }
 
-// What plate_make answers: the number of the first no, 0 where a plate is made; and the written length, 0 on a refusal.
+// What plate_make and plate_make_ranked answer: the number of the first no, 0 where a plate is made; and the written length, 0 on a refusal.
 #[repr(C)]
 pub struct MakeResult {
     pub number: u32,
@@ -35,13 +36,11 @@ pub struct MakeResult {
     pub written: u64,
 }
 
-// plate_maker::make.
-#[no_mangle]
-pub extern "C" fn plate_make(sheet: &[u8], output: &mut [u8], workspace: &mut [u16]) -> MakeResult
-    ensures { λ r. ⌜ MakingExported (now (sheet .entry)) (now (output .entry)) (now (workspace .entry)) r
-        (now (output .exit)) (now (workspace .exit)) ⌝ }
+// The answer of a making.
+fn make_reply(answer: MakeAnswer) -> MakeResult
+    ensures { λ r. ⌜ r ≡ makeReply answer ⌝ }
 {
-    match plate_maker::make(sheet, output, workspace) {
+    match answer {
         MakeAnswer::Made(written) => MakeResult {
             number: 0,
             spare: 0,
@@ -53,6 +52,29 @@ pub extern "C" fn plate_make(sheet: &[u8], output: &mut [u8], workspace: &mut [u
             written: 0,
         },
     }
+}
+
+// plate_maker::make.
+#[no_mangle]
+pub extern "C" fn plate_make(sheet: &[u8], output: &mut [u8], workspace: &mut [u16]) -> MakeResult
+    ensures { λ r. ⌜ MakingExported (now (sheet .entry)) none (now (output .entry)) (now (workspace .entry)) r
+        (now (output .exit)) (now (workspace .exit)) ⌝ }
+{
+    make_reply(plate_maker::make(sheet, output, workspace))
+}
+
+// plate_maker::make_ranked.
+#[no_mangle]
+pub extern "C" fn plate_make_ranked(
+    sheet: &[u8],
+    ranks: &[u8],
+    output: &mut [u8],
+    workspace: &mut [u16],
+) -> MakeResult
+    ensures { λ r. ⌜ MakingExported (now (sheet .entry)) (some (now (ranks .entry))) (now (output .entry)) (now (workspace .entry)) r
+        (now (output .exit)) (now (workspace .exit)) ⌝ }
+{
+    make_reply(plate_maker::make_ranked(sheet, ranks, output, workspace))
 }
 
 // What plate_read answers: the number of the first no, 0 where the plate is accepted; where the inside list starts in the plate, and how
@@ -94,7 +116,7 @@ pub extern "C" fn plate_listing(plate: &[u8], buffer: &mut [u8]) -> usize
     lines::listing(plate, buffer)
 }
 
-// What desk_load answers: the desk after it, and the number of the first no, 0 where the sheet is loaded.
+// What desk_load and desk_load_ranked answer: the desk after it, and the number of the first no, 0 where the sheet is loaded.
 #[repr(C)]
 pub struct DeskLoadResult {
     pub desk: Desk,
@@ -102,7 +124,7 @@ pub struct DeskLoadResult {
 }
 
 // What desk_mark answers: the desk after it, and the number of the first no, 0 where the list is marked. Then the list's number, and the
-// verdict: 1 for valid, with count and shortfall; 2 for a clash of two labels, 3 for one of a label and a leader, 4 for a label that leaves
+// verdict: 1 for valid, with the sum of ranks and the shortfall; 2 for a clash of two labels, 3 for one of a label and a leader, 4 for a label that leaves
 // the map, 5 for a clash of two leaders, with the two positions. All else is 0.
 #[repr(C)]
 pub struct DeskMarkResult {
@@ -110,7 +132,7 @@ pub struct DeskMarkResult {
     pub number: u32,
     pub list_number: u32,
     pub verdict: u32,
-    pub count: u32,
+    pub sum: u32,
     pub shortfall: u32,
     pub first: u32,
     pub second: u32,
@@ -133,12 +155,12 @@ fn verdict_reply(desk: Desk, list_number: u16, verdict: Verdict) -> DeskMarkResu
     ensures { λ r. ⌜ r ≡ verdictReply desk «list_number» verdict ⌝ }
 {
     match verdict {
-        Verdict::Valid { count, shortfall } => DeskMarkResult {
+        Verdict::Valid { sum, shortfall } => DeskMarkResult {
             desk,
             number: 0,
             list_number: list_number as u32,
             verdict: 1,
-            count: count as u32,
+            sum: sum as u32,
             shortfall: shortfall as u32,
             first: 0,
             second: 0,
@@ -152,7 +174,7 @@ fn verdict_reply(desk: Desk, list_number: u16, verdict: Verdict) -> DeskMarkResu
             number: 0,
             list_number: list_number as u32,
             verdict: kind_number(kind),
-            count: 0,
+            sum: 0,
             shortfall: 0,
             first: first as u32,
             second: second as u32,
@@ -168,24 +190,48 @@ pub extern "C" fn desk_new() -> Desk
     Desk::new()
 }
 
+// The number of a load's answer.
+fn load_number(answer: LoadAnswer) -> u32
+    ensures { λ r. ⌜ r ≡ loadOutcome answer .no ⌝ }
+{
+    match answer {
+        LoadAnswer::Accepted => 0,
+        LoadAnswer::Refused(no) => no as u32,
+    }
+}
+
 // desk::Desk::load.
 #[no_mangle]
 pub extern "C" fn desk_load(desk: Desk, sheet: &[u8], workspace: &mut [u16]) -> DeskLoadResult
-    ensures { λ r. ⌜ r ≡ loadReply (loadOf desk (now (sheet .entry)) (now (workspace .entry))) ⌝ }
+    ensures { λ r. ⌜ r ≡ loadReply (loadOf desk (now (sheet .entry)) none (now (workspace .entry))) ⌝ }
     ensures { λ r. ⌜ now (workspace .exit) ≡ workspaceAfter (r .number) (now (workspace .entry)) ⌝ }
 {
     let loaded = desk.load(sheet, workspace);
     let after = loaded.desk;
     let answer = loaded.answer;
-    match answer {
-        LoadAnswer::Accepted => DeskLoadResult {
-            desk: after,
-            number: 0,
-        },
-        LoadAnswer::Refused(no) => DeskLoadResult {
-            desk: after,
-            number: no as u32,
-        },
+    DeskLoadResult {
+        desk: after,
+        number: load_number(answer),
+    }
+}
+
+// desk::Desk::load_ranked.
+#[no_mangle]
+pub extern "C" fn desk_load_ranked(
+    desk: Desk,
+    sheet: &[u8],
+    ranks: &[u8],
+    workspace: &mut [u16],
+) -> DeskLoadResult
+    ensures { λ r. ⌜ r ≡ loadReply (loadOf desk (now (sheet .entry)) (some (now (ranks .entry))) (now (workspace .entry))) ⌝ }
+    ensures { λ r. ⌜ now (workspace .exit) ≡ workspaceAfter (r .number) (now (workspace .entry)) ⌝ }
+{
+    let loaded = desk.load_ranked(sheet, ranks, workspace);
+    let after = loaded.desk;
+    let answer = loaded.answer;
+    DeskLoadResult {
+        desk: after,
+        number: load_number(answer),
     }
 }
 
@@ -204,7 +250,7 @@ pub extern "C" fn desk_mark(desk: Desk, list: &[u8]) -> DeskMarkResult
             number: no as u32,
             list_number: 0,
             verdict: 0,
-            count: 0,
+            sum: 0,
             shortfall: 0,
             first: 0,
             second: 0,
