@@ -2,6 +2,7 @@
 -- Assumes nothing.
 use mathlib.Core.Path.{_≡_, refl, sym, ap, _∙_}
 use mathlib.Core.List.{List}
+use mathlib.Core.Option.{none}
 use Prim.Native.Nat.{ℕ, _+_, _*_, _≤_, _<_}
 use lib.Dec.{leb}
 use lib.ListN.{length, take}
@@ -13,16 +14,18 @@ use Rattle.format.specs.Sizes.{sheetRoom, plateRoom, workspaceCells}
 use Rattle.format.specs.Sheet.{pointCount, sheetNo}
 use Rattle.format.specs.Accepted.{accepted}
 use Rattle.format.specs.Asking.{then-first}
-use Rattle.format.specs.MakingQuestions.{askedNo, outputFits, choiceNo, choosingNo, makingNo}
+use Rattle.format.specs.MakingQuestions.{roomNo, askedNo, outputFits, choiceNo, choosingNo, makingNo}
 use Rattle.format.specs.Start.{start-decides}
 use Rattle.print_plate.specs.PrintedText.{printedText}
 
 -- a sheet that is refused is refused in making
-refused-making : (s : List ℕ) → (sheetNo s ≡ 0 → ⊥) → makingNo s plateRoom workspaceCells ≡ sheetNo s
-unfolding makingNo choosingNo askedNo
+refused-making : (s : List ℕ) → (sheetNo s ≡ 0 → ⊥) → makingNo s none plateRoom workspaceCells ≡ sheetNo s
+unfolding makingNo choosingNo askedNo roomNo
 refused-making s some =
-    let e : sheetNo s ≡ askedNo s (outputFits s plateRoom) workspaceCells = then-first (sheetNo s) _ (sheetNo s) some refl in
-    sym (then-first (askedNo s (outputFits s plateRoom) workspaceCells) (choiceNo s) (sheetNo s) (λ z. some (e ∙ z)) e)
+    let e : sheetNo s ≡ roomNo s (outputFits s plateRoom) workspaceCells = then-first (sheetNo s) _ (sheetNo s) some refl in
+    let f : sheetNo s ≡ askedNo s none (outputFits s plateRoom) workspaceCells =
+    then-first (roomNo s (outputFits s plateRoom) workspaceCells) _ (sheetNo s) (λ z. some (e ∙ z)) e in
+    sym (then-first (askedNo s none (outputFits s plateRoom) workspaceCells) (choiceNo s) (sheetNo s) (λ z. some (f ∙ z)) f)
 
 module _ (k : ℕ) (s : List ℕ) (enough : sheetRoom < k) where
   -- an input of more than k bytes is no sheet
@@ -39,7 +42,7 @@ module _ (k : ℕ) (s : List ℕ) (enough : sheetRoom < k) where
   cut more =
       let some : sheetNo s ≡ 0 → ⊥ = too-long more in
       let same : sheetNo (take k s) ≡ sheetNo s = start-decides k s (omega arith) in
-      let a : makingNo (take k s) plateRoom workspaceCells ≡ sheetNo s =
+      let a : makingNo (take k s) none plateRoom workspaceCells ≡ sheetNo s =
       refused-making (take k s) (λ z. some (sym same ∙ z)) ∙ same in
       rw (a, refused-making s some, ne-eqb (sheetNo s) 0 some)
 

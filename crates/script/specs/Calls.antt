@@ -24,13 +24,17 @@ use Rattle.script.specs.declared.Call.the-variants.{Known, Bad}
 abbrev pub onePart : Form
 onePart = Parts Sized Absent
 
--- the calls on a desk: 1 loads a sheet, 2 marks a list
-unfoldable pub deskForm : ℕ → Form
-deskForm kind = cond (eqb kind 1) onePart (cond (eqb kind 2) onePart Unknown)
+-- a call of two parts
+abbrev pub twoParts : Form
+twoParts = Parts Sized Sized
 
--- the calls on a desk, and those without one: 11 makes a plate of a sheet, 12 reads a plate
+-- the calls on a desk: 1 loads a sheet, 2 marks a list, 3 loads a sheet with a rank list
+unfoldable pub deskForm : ℕ → Form
+deskForm kind = cond (eqb kind 1) onePart (cond (eqb kind 2) onePart (cond (eqb kind 3) twoParts Unknown))
+
+-- the calls on a desk, and those without one: 11 makes a plate of a sheet, 12 reads a plate, 13 makes a plate of a sheet with a rank list
 unfoldable pub allForm : ℕ → Form
-allForm kind = cond (eqb kind 11) onePart (cond (eqb kind 12) onePart (deskForm kind))
+allForm kind = cond (eqb kind 11) onePart (cond (eqb kind 12) onePart (cond (eqb kind 13) twoParts (deskForm kind)))
 
 -- the form of a call of this kind, where a program knows these kinds
 abbrev pub formOf : Kinds → ℕ → Form

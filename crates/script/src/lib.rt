@@ -3,7 +3,7 @@
 ghost use mathlib.Core.Path.{_≡_};
 ghost use Prim.Native.Nat.{_≤_};
 ghost use lib.ListN.{length};
-ghost use Rattle.script.specs.Calls.{deskForm, allForm, formOf, onePart};
+ghost use Rattle.script.specs.Calls.{deskForm, allForm, formOf, onePart, twoParts};
 ghost use Rattle.script.specs.Calls.{CallIn, CallOf, PartIn, PartOf, numberIn, partOf};
 use streams::Input;
 use streams::read_input;
@@ -64,6 +64,15 @@ fn one_part() -> Form
     }
 }
 
+fn two_parts() -> Form
+    ensures { λ r. ⌜ r ≡ twoParts ⌝ }
+{
+    Form::Parts {
+        first: Part::Sized,
+        second: Part::Sized,
+    }
+}
+
 // The calls on a desk.
 fn desk_form(kind: u8) -> Form
     ensures { λ r. ⌜ r ≡ deskForm kind ⌝ }
@@ -71,6 +80,7 @@ fn desk_form(kind: u8) -> Form
     match kind {
         1 => one_part(), // a sheet, which is loaded
         2 => one_part(), // a list, which is marked
+        3 => two_parts(), // a sheet and a rank list, with which it is loaded
         _ => Form::Unknown,
     }
 }
@@ -82,6 +92,7 @@ fn all_form(kind: u8) -> Form
     match kind {
         11 => one_part(), // a sheet, which is made into a plate
         12 => one_part(), // a plate, which is read
+        13 => two_parts(), // a sheet and a rank list, with which it is made into a plate
         _ => desk_form(kind),
     }
 }

@@ -2,6 +2,7 @@
 use mathlib.Core.Path.{_≡_, ap}
 use mathlib.Core.Bool.{Bool, true, false, cond}
 use mathlib.Core.List.{List}
+use mathlib.Core.Option.{Option, none, some}
 use Prim.Native.Nat.{ℕ}
 use lib.Dec.{eqb}
 use lib.ListN.{replicate}
@@ -20,25 +21,29 @@ pub record DeskCall : Type 0 where
   pub desk : Desk
   pub text : List ℕ
 
--- A load with a workspace of zeros.
-abbrev pub loaded : Desk → List ℕ → LoadResult
-loaded d s = loadOf d s (replicate workspaceCells 0)
+-- What a load with this result comes to.
+abbrev pub loadedCall : LoadResult → DeskCall
+loadedCall r = record { desk = r .desk; text = loadLine (r .answer) (r .desk) }
 
--- Kind 1: a sheet is loaded.
-abbrev pub loadCall : Desk → List ℕ → DeskCall
-loadCall d s = record { desk = loaded d s .desk; text = loadLine (loaded d s .answer) (loaded d s .desk) }
+-- A load with a workspace of zeros, with the rank list r or none.
+abbrev pub loaded : Desk → List ℕ → Option (List ℕ) → LoadResult
+loaded d s r = loadOf d s r (replicate workspaceCells 0)
+
+-- Kinds 1 and 3: a sheet is loaded, without a list or with one.
+abbrev pub loadCall : Desk → List ℕ → Option (List ℕ) → DeskCall
+loadCall d s r = loadedCall (loaded d s r)
 
 -- Kind 2: a list is marked.
 abbrev pub markCall : Desk → List ℕ → DeskCall
 markCall d l = record { desk = markOf d l .desk; text = markLine (markOf d l .answer) }
 
--- A call on the desk d: kind 1 loads a sheet, every other kind marks a list.
-abbrev pub deskCall : Desk → ℕ → List ℕ → DeskCall
-deskCall d kind part = cond (eqb kind 1) (loadCall d part) (markCall d part)
+-- A call on the desk d, by its first and second part: kind 1 loads a sheet, kind 3 a sheet with a rank list, every other kind marks a list.
+abbrev pub deskCall : Desk → ℕ → List ℕ → List ℕ → DeskCall
+deskCall d kind a b = cond (eqb kind 1) (loadCall d a none) (cond (eqb kind 3) (loadCall d a (some b)) (markCall d a))
 
--- The desk after a call of any kind: 11 and 12 leave it as it was.
-abbrev pub deskAfterCall : Desk → ℕ → List ℕ → Desk
-deskAfterCall d kind part = cond (eqb kind 11) d (cond (eqb kind 12) d (deskCall d kind part .desk))
+-- The desk after a call of any kind: 11 to 13 leave it as it was.
+abbrev pub deskAfterCall : Desk → ℕ → List ℕ → List ℕ → Desk
+deskAfterCall d kind a b = cond (eqb kind 11) d (cond (eqb kind 12) d (cond (eqb kind 13) d (deskCall d kind a b .desk)))
 
 -- A call ran that comes to x: the desk after it, and its line in the buffer o.
 pub record Runs (x : DeskCall) (o : List ℕ) (r : Ran) (o′ : List ℕ) : Type 0 where
@@ -56,17 +61,22 @@ unfolding deskAfter
 reached-fresh d e = record { calls = noCalls; desk = e }
 
 -- and so is the desk after a call.
-pub reached-after : (d d′ : Desk) (kind : ℕ) (part : List ℕ) → Reached d → d′ ≡ deskAfterCall d kind part → Reached d′
+pub reached-after : (d d′ : Desk) (kind : ℕ) (a b : List ℕ) → Reached d → d′ ≡ deskAfterCall d kind a b → Reached d′
 unfolding deskAfter
-reached-after d d′ kind part r q = rw q (either (eqb kind 11) r (either (eqb kind 12) r (on-desk (eqb kind 1))))
+reached-after d d′ kind a b r q =
+    rw q (either (eqb kind 11) r (either (eqb kind 12) r (either (eqb kind 13) r (on-desk (eqb kind 1) (eqb kind 3)))))
   where
     either : (b : Bool) {x y : Desk} → Reached x → Reached y → Reached (cond b x y)
     either true x y = x
     either false x y = y
 
-    on-desk : (b : Bool) → Reached (cond b (loadCall d part) (markCall d part) .desk)
-    on-desk true = record {
-      calls = r .calls andThen load part (replicate workspaceCells 0);
-      desk = ap (λ e. loaded e part .desk) (r .desk);
+    a-load : (l : Option (List ℕ)) → Reached (loadCall d a l .desk)
+    a-load l = record {
+      calls = r .calls andThen load a l (replicate workspaceCells 0);
+      desk = ap (λ e. loaded e a l .desk) (r .desk);
     }
-    on-desk false = record { calls = r .calls andThen mark part; desk = ap (λ e. markOf e part .desk) (r .desk) }
+
+    on-desk : (one three : Bool) → Reached (cond one (loadCall d a none) (cond three (loadCall d a (some b)) (markCall d a)) .desk)
+    on-desk true three = a-load none
+    on-desk false true = a-load (some b)
+    on-desk false false = record { calls = r .calls andThen mark a; desk = ap (λ e. markOf e a .desk) (r .desk) }

@@ -1,12 +1,15 @@
 // Runs a script, for the programs desk_session and conformance: its calls, each with a line on standard output.
 ghost use mathlib.Core.Path.{_≡_};
-ghost use Rattle.session.specs.Session.{Runs, Reached, deskAfterCall, deskCall, loadCall, markCall};
+ghost use mathlib.Core.Option.{none, some};
+ghost use Rattle.session.specs.Session.{Runs, Reached, deskAfterCall, deskCall, loadedCall, loadCall, markCall};
 use desk::Desk;
+use desk::LoadResult;
 use format::WORKSPACE_CELLS;
 use lines::LINE_ROOM;
 use lines::load_line;
 use lines::mark_line;
 use plates::run_plate;
+use plates::run_ranked_sheet;
 use plates::run_sheet;
 use script::Call;
 use script::Kinds;
@@ -27,12 +30,10 @@ struct Answered {
     written: bool,
 }
 
-// Loads a sheet. The workspace is zeros.
-fn run_load(desk: Desk, sheet: &[u8], line: &mut [u8]) -> Ran
-    ensures { λ r. ⌜ Runs (loadCall desk (now (sheet .entry))) (now (line .entry)) r (now (line .exit)) ⌝ }
+// The line of a load.
+fn load_ran(result: LoadResult, line: &mut [u8]) -> Ran
+    ensures { λ r. ⌜ Runs (loadedCall result) (now (line .entry)) r (now (line .exit)) ⌝ }
 {
-    let mut workspace = [0u16; WORKSPACE_CELLS];
-    let result = desk.load(sheet, &mut workspace);
     let answer = result.answer;
     let loaded = result.desk;
     let length = load_line(answer, loaded, line);
@@ -40,6 +41,24 @@ fn run_load(desk: Desk, sheet: &[u8], line: &mut [u8]) -> Ran
         desk: loaded,
         length,
     }
+}
+
+// Loads a sheet. The workspace is zeros.
+fn run_load(desk: Desk, sheet: &[u8], line: &mut [u8]) -> Ran
+    ensures { λ r. ⌜ Runs (loadCall desk (now (sheet .entry)) none) (now (line .entry)) r (now (line .exit)) ⌝ }
+{
+    let mut workspace = [0u16; WORKSPACE_CELLS];
+    let result = desk.load(sheet, &mut workspace);
+    load_ran(result, line)
+}
+
+// Loads a sheet with a rank list.
+fn run_ranked_load(desk: Desk, sheet: &[u8], ranks: &[u8], line: &mut [u8]) -> Ran
+    ensures { λ r. ⌜ Runs (loadCall desk (now (sheet .entry)) (some (now (ranks .entry)))) (now (line .entry)) r (now (line .exit)) ⌝ }
+{
+    let mut workspace = [0u16; WORKSPACE_CELLS];
+    let result = desk.load_ranked(sheet, ranks, &mut workspace);
+    load_ran(result, line)
 }
 
 // Marks a list.
@@ -56,60 +75,67 @@ fn run_mark(desk: Desk, list: &[u8], line: &mut [u8]) -> Ran
     }
 }
 
-// Kind 1 loads a sheet, every other kind marks a list.
-fn run_call(desk: Desk, kind: u8, part: &[u8], line: &mut [u8]) -> Ran
-    ensures { λ r. ⌜ Runs (deskCall desk kind (now (part .entry))) (now (line .entry)) r (now (line .exit)) ⌝ }
+// Kind 1 loads a sheet, kind 3 a sheet with a rank list, every other kind marks a list.
+fn run_call(desk: Desk, kind: u8, first: &[u8], second: &[u8], line: &mut [u8]) -> Ran
+    ensures { λ r. ⌜ Runs (deskCall desk kind (now (first .entry)) (now (second .entry))) (now (line .entry)) r (now (line .exit)) ⌝ }
 {
     if kind == 1 {
-        return run_load(desk, part, line);
+        return run_load(desk, first, line);
     }
-    run_mark(desk, part, line)
+    if kind == 3 {
+        return run_ranked_load(desk, first, second, line);
+    }
+    run_mark(desk, first, line)
 }
 
 // Writes a line to standard output: whether all of it was written. What it asks says that the line is the call's.
-fn write_line(desk: Desk, kind: u8, part: &[u8], line: &[u8]) -> bool
-    requires { ⌜ now line ≡ deskCall desk kind (now part) .text ⌝ }
+fn write_line(desk: Desk, kind: u8, first: &[u8], second: &[u8], line: &[u8]) -> bool
+    requires { ⌜ now line ≡ deskCall desk kind (now first) (now second) .text ⌝ }
 {
     write_output(line) == line.len()
 }
 
-// Runs a call on the desk and writes its line. Kind 1 loads a sheet, every other kind marks a list.
-fn answer_on_desk(desk: Desk, kind: u8, part: &[u8]) -> Answered
-    ensures { λ r. ⌜ r .desk ≡ deskCall desk kind (now (part .entry)) .desk ⌝ }
+// Runs a call on the desk and writes its line.
+fn answer_on_desk(desk: Desk, kind: u8, first: &[u8], second: &[u8]) -> Answered
+    ensures { λ r. ⌜ r .desk ≡ deskCall desk kind (now (first .entry)) (now (second .entry)) .desk ⌝ }
 {
     let mut line = [0u8; LINE_ROOM];
-    let ran = run_call(desk, kind, part, &mut line);
+    let ran = run_call(desk, kind, first, second, &mut line);
     let n = ran.length;
     let after = ran.desk;
-    let written = write_line(desk, kind, part, &line[..n]);
+    let written = write_line(desk, kind, first, second, &line[..n]);
     Answered {
         desk: after,
         written,
     }
 }
 
-// Runs a call and writes its line. Kind 11 is a sheet, which is made into a plate, kind 12 a plate, which is read; every other kind is a
-// call on the desk.
-fn answer(desk: Desk, kind: u8, part: &[u8]) -> Answered
-    ensures { λ r. ⌜ r .desk ≡ deskAfterCall desk kind (now (part .entry)) ⌝ }
+// Runs a call and writes its line. Kind 11 is a sheet, which is made into a plate, kind 12 a plate, which is read, kind 13 a sheet and a
+// rank list, with which it is made into a plate; every other kind is a call on the desk.
+fn answer(desk: Desk, kind: u8, first: &[u8], second: &[u8]) -> Answered
+    ensures { λ r. ⌜ r .desk ≡ deskAfterCall desk kind (now (first .entry)) (now (second .entry)) ⌝ }
 {
     match kind {
         11 => Answered {
             desk,
-            written: run_sheet(part),
+            written: run_sheet(first),
         },
         12 => Answered {
             desk,
-            written: run_plate(part),
+            written: run_plate(first),
         },
-        _ => answer_on_desk(desk, kind, part),
+        13 => Answered {
+            desk,
+            written: run_ranked_sheet(first, second),
+        },
+        _ => answer_on_desk(desk, kind, first, second),
     }
 }
 
 // Runs the script on standard input on a fresh desk and writes a line for each call. At a call that is cut short, or of none of these
-// kinds, it writes `bad call` and stops. It stops too where a read or a write fails, whose line is on standard error. No kind has a second
-// part, so that buffer stays as it is. The count of turns is there so that the loop ends for certain: no script has as many calls. The desk
-// that the calls leave is handed back: which calls they are, no contract can say.
+// kinds, it writes `bad call` and stops. It stops too where a read or a write fails, whose line is on standard error. The count of turns
+// is there so that the loop ends for certain: no script has as many calls. The desk that the calls leave is handed back: which calls they
+// are, no contract can say.
 pub fn run(kinds: Kinds) -> Desk
     ensures { λ r. ⌜ Reached r ⌝ }
 {
@@ -121,11 +147,12 @@ pub fn run(kinds: Kinds) -> Desk
         match read_call(kinds, &mut first, &mut second) {
             Call::Known {
                 kind,
-                first: length,
-                second: _,
+                first: first_length,
+                second: second_length,
             } => {
-                let n = length as usize;
-                let answered = answer(desk, kind, &first[..n]);
+                let n = first_length as usize;
+                let m = second_length as usize;
+                let answered = answer(desk, kind, &first[..n], &second[..m]);
                 desk = answered.desk;
                 if !answered.written {
                     return desk;

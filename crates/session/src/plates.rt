@@ -1,4 +1,7 @@
 // The calls without a desk, and their lines on standard output: a sheet made into a plate, and a plate read.
+ghost use mathlib.Core.Path.{_≡_};
+ghost use Prim.Native.Nat.{ℕ, _≤_};
+ghost use lib.ListN.{length};
 use format::PLATE_ROOM;
 use format::WORKSPACE_CELLS;
 use plate_maker::MakeAnswer;
@@ -55,14 +58,30 @@ fn print_refused_sheet(no: u8) -> bool {
     end_line(print_refusal(word, no))
 }
 
+// The line of a making: the plate is at the start of the output.
+fn print_making(answer: MakeAnswer, output: &[u8]) -> bool
+    requires { ⌜ ((written : ℕ) → answer ≡ MakeAnswer.Made written → written ≤ length (now output)) ⌝ }
+{
+    match answer {
+        MakeAnswer::Made(written) => print_made(&output[..written]),
+        MakeAnswer::Refused(no) => print_refused_sheet(no),
+    }
+}
+
 // A sheet, made into a plate.
 pub(crate) fn run_sheet(sheet: &[u8]) -> bool {
     let mut output = [0u8; PLATE_ROOM];
     let mut workspace = [0u16; WORKSPACE_CELLS];
-    match plate_maker::make(sheet, &mut output, &mut workspace) {
-        MakeAnswer::Made(written) => print_made(&output[..written]),
-        MakeAnswer::Refused(no) => print_refused_sheet(no),
-    }
+    let answer = plate_maker::make(sheet, &mut output, &mut workspace);
+    print_making(answer, &output)
+}
+
+// A sheet, made into a plate with a rank list.
+pub(crate) fn run_ranked_sheet(sheet: &[u8], ranks: &[u8]) -> bool {
+    let mut output = [0u8; PLATE_ROOM];
+    let mut workspace = [0u16; WORKSPACE_CELLS];
+    let answer = plate_maker::make_ranked(sheet, ranks, &mut output, &mut workspace);
+    print_making(answer, &output)
 }
 
 fn print_plate_answer(so_far: bool, answer: PlateAnswer) -> bool {

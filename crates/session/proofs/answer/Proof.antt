@@ -10,6 +10,9 @@ run-sheet-requires c κs = search needs
 run-plate-requires : tie.Need-run-plate-requires
 run-plate-requires c κs = search needs
 
+run-ranked-sheet-requires : tie.Need-run-ranked-sheet-requires
+run-ranked-sheet-requires c κs = search needs
+
 answer-on-desk-requires : tie.Need-answer-on-desk-requires
 answer-on-desk-requires c κs = search needs
 
@@ -20,7 +23,12 @@ returns-2 : tie.Need-returns-2
 returns-2 c = rw (c .before .match .keys2)
 
 returns-3 : tie.Need-returns-3
-returns-3 c = rw (ne-eqb _ _ (c .before .match .rest .0 .1), ne-eqb _ _ (c .before .match .rest .1)) (c .answer-on-desk .ensures)
+returns-3 c = rw (c .before .match .keys3)
+
+returns-4 : tie.Need-returns-4
+returns-4 c =
+    let rest = c .before .match .rest in
+    rw (ne-eqb _ _ (rest .0 .0 .1), ne-eqb _ _ (rest .0 .1), ne-eqb _ _ (rest .1)) (c .answer-on-desk .ensures)
 
 pub answer-spec : {M : Type 1} → statement M
 answer-spec =
@@ -28,7 +36,9 @@ answer-spec =
     (tie.spec
     run-sheet-requires
     run-plate-requires
+    run-ranked-sheet-requires
     answer-on-desk-requires
     returns
     returns-2
-    returns-3)
+    returns-3
+    returns-4)

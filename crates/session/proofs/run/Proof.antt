@@ -32,12 +32,23 @@ enum-known-kind c = search needs
 cast-n : tie.Need-cast-n Inv-loop μ-loop
 cast-n c = search needs
 
+cast-m : tie.Need-cast-m Inv-loop μ-loop
+cast-m c = search needs
+
 array-share-prefix-first : tie.Need-array-share-prefix-first Inv-loop μ-loop
 array-share-prefix-first c = call-counts _ _ _ _ _ _ _ (c .before .before .before .read-call .ensures) (c .before .kind .given .1) .0 .0
 
 slice-aggregate-answer : tie.Need-slice-aggregate-answer Inv-loop μ-loop
 slice-aggregate-answer c =
     call-counts _ _ _ _ _ _ _ (c .before .before .before .before .read-call .ensures) (c .before .before .kind .given .1) .0 .1
+
+array-share-prefix-second : tie.Need-array-share-prefix-second Inv-loop μ-loop
+array-share-prefix-second c =
+    call-counts _ _ _ _ _ _ _ (c .before .before .before .before .read-call .ensures) (c .before .before .kind .given .1) .1 .0
+
+slice-aggregate-answer-2 : tie.Need-slice-aggregate-answer-2 Inv-loop μ-loop
+slice-aggregate-answer-2 c =
+    call-counts _ _ _ _ _ _ _ (c .before .before .before .before .before .read-call .ensures) (c .before .before .before .kind .given .1) .1 .1
 
 answer-requires : tie.Need-answer-requires Inv-loop μ-loop
 answer-requires c κs = search needs
@@ -94,8 +105,11 @@ run-spec =
     read-call-requires
     enum-known-kind
     cast-n
+    cast-m
     array-share-prefix-first
     slice-aggregate-answer
+    array-share-prefix-second
+    slice-aggregate-answer-2
     answer-requires
     returns
     enum-told
