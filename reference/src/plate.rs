@@ -2,7 +2,8 @@
 
 use crate::margin::{inside_positions, margin_columns, margin_width, outside_pairs};
 use crate::pixels::valid;
-use crate::search::best_choice;
+use crate::ranks::Ranks;
+use crate::search::{best_choice, best_ranked};
 use crate::sheet::{Choice, Sheet};
 use crate::WORKSPACE_NUMBERS;
 
@@ -87,10 +88,20 @@ fn split_sections(sections: &[u8]) -> Option<(&[u8], &[u8])> {
     Some((inside, pairs))
 }
 
-/// A making: the plate of the preferred best choice, or the number of the first no. 61 comes last,
-/// exactly if no choice of the sheet is valid. On a no the output is untouched and the written
-/// length is 0.
+/// A making with no rank list lent: as `make_ranked`, with every rank 1. It never gives 62 or 63.
 pub fn make(sheet: &[u8], output_len: usize, workspace_len: usize) -> Result<Vec<u8>, u8> {
+    make_ranked(sheet, None, output_len, workspace_len)
+}
+
+/// A making, with the rank list that is lent, if any: the plate of the preferred best choice, or the
+/// number of the first no. After 22 come 62 and 63, about the list. 61 comes last, exactly if no
+/// choice of the sheet is valid. On a no the output is untouched and the written length is 0.
+pub fn make_ranked(
+    sheet: &[u8],
+    ranks: Option<&[u8]>,
+    output_len: usize,
+    workspace_len: usize,
+) -> Result<Vec<u8>, u8> {
     let sheet = Sheet::read(sheet)?;
     if output_len < 12 + 8 * sheet.points().len() {
         return Err(21);
@@ -98,11 +109,12 @@ pub fn make(sheet: &[u8], output_len: usize, workspace_len: usize) -> Result<Vec
     if workspace_len < WORKSPACE_NUMBERS {
         return Err(22);
     }
-    let choice = best_choice(&sheet).ok_or(61)?;
+    let ranks = Ranks::of(&sheet, ranks)?;
+    let choice = best_ranked(&sheet, &ranks).ok_or(61)?;
     Ok(plate_bytes(&sheet, choice))
 }
 
-/// The number of a making: 0 if a plate is made, else the number of the first no.
+/// The number of a making with no rank list lent: 0 if a plate is made, else the number of the first no.
 pub fn making_no(sheet: &[u8], output_len: usize, workspace_len: usize) -> u8 {
     make(sheet, output_len, workspace_len).err().unwrap_or(0)
 }
@@ -116,7 +128,7 @@ pub fn zeroes_workspace(number: u8) -> bool {
 
 /// What the printing program writes for these sheet bytes: the listing of the plate of the preferred
 /// best choice, or a line with the number of the first no. The program has output and workspace
-/// enough.
+/// enough, and lends no rank list.
 pub fn printed(sheet: &[u8]) -> String {
     let best = Sheet::read(sheet).and_then(|sheet| {
         let choice = best_choice(&sheet).ok_or(61)?;

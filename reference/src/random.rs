@@ -115,6 +115,27 @@ pub fn shared_rows_sheet(
     sheet_bytes(map, label, &sharing_rows(random, map, label, n, points))
 }
 
+/// A random rank list for n points: a count byte, then any ranks, or ranks of two kinds, or a 9 among
+/// ones, or the same rank for all.
+pub fn random_ranks(random: &mut Random, n: u8) -> Vec<u8> {
+    let [one, other] = [(); 2].map(|()| random_rank(random));
+    let way = random.below(8);
+    let place = random.below(n.into());
+    let ranks = (0..u16::from(n)).map(|position| match way {
+        0..=3 => random_rank(random),
+        4..=5 => [one, other][usize::from(random.below(2))],
+        6 if position == place => 9,
+        6 => 1,
+        _ => one,
+    });
+    [n].into_iter().chain(ranks).collect()
+}
+
+/// A rank from 1 to 9.
+fn random_rank(random: &mut Random) -> u8 {
+    random.between(1, 9) as u8
+}
+
 /// The first sheet that is accepted by the sheet's questions. Sheets with two points on one pixel
 /// are passed over.
 ///

@@ -1,11 +1,12 @@
-//! The best count and the preferred best choice.
+//! The preferred best choice: the valid one with the greatest sum of ranks inside, with ties decided
+//! in sheet order. With no rank list lent every rank is 1, and the sum is the inside count.
 //!
 //! Small sheets are solved by trying every choice, and of the best ones the preferred one is kept.
 //! Larger ones are solved by an exact search over what pixels force: if point a in one state shares a
 //! pixel with point b in another state, then the one state of a forces the opposite state of b. A
 //! point whose label leaves the map can't be inside: its inside state forces its own outside state.
-//! The search answers which count is the best if some points keep given states. So the points can be
-//! gone through in sheet order: each is put inside if the best count is still reached with it inside
+//! The search answers which sum is the best if some points keep given states. So the points can be
+//! gone through in sheet order: each is put inside if the best sum is still reached with it inside
 //! and with all points before it as decided. The choice found is marked in full at the end, margin
 //! included.
 //!
@@ -13,13 +14,15 @@
 //! outside point's outer label has negative columns only, and its leader covers column 0 to the
 //! point's column whatever its margin column is. So two outside points of one row share column 0,
 //! and each of them outside forces the other inside. What is found that way is a necessary condition
-//! for a valid choice. So if no choice meets it, no choice is valid. No valid choice has more points
-//! inside than the choice that the search finds, and none with as many is preferred to it; when the
+//! for a valid choice. So if no choice meets it, no choice is valid. No valid choice has a greater sum
+//! than the choice that the search finds, and none with the same sum is preferred to it; when the
 //! marking in full finds that choice valid, it is the preferred best one.
 
+use std::cmp::Ordering;
 use std::collections::HashMap;
 
 use crate::pixels::{inside_runs, leaves_the_map, map_part, outside_runs, share_a_pixel, valid};
+use crate::ranks::Ranks;
 use crate::sheet::{Choice, Sheet};
 
 /// Up to this many points every choice is tried.
@@ -29,20 +32,26 @@ pub const TRY_ALL_POINTS: usize = 12;
 const OUTSIDE: usize = 0;
 const INSIDE: usize = 1;
 
-/// The greatest inside count over all valid choices, or 0 if no choice is valid.
+/// The greatest inside count over all valid choices, or 0 if no choice is valid. No rank list is lent.
 pub fn best_count(sheet: &Sheet) -> usize {
     best_choice(sheet).map_or(0, |choice| choice.0.count_ones() as usize)
 }
 
-/// Of the valid choices with the best count the preferred one, or nothing if no choice is valid. It
-/// has no bits outside the sheet's positions.
+/// As `best_ranked`, with no rank list lent: of the valid choices with the best count the preferred
+/// one.
+pub fn best_choice(sheet: &Sheet) -> Option<Choice> {
+    best_ranked(sheet, &Ranks::ones(sheet))
+}
+
+/// Of the valid choices with the greatest sum of ranks inside the preferred one, or nothing if no
+/// choice is valid. It has no bits outside the sheet's positions.
 ///
 /// Panics if the search's choice isn't valid: it would then be no more than a bound.
-pub fn best_choice(sheet: &Sheet) -> Option<Choice> {
+pub fn best_ranked(sheet: &Sheet, ranks: &Ranks) -> Option<Choice> {
     if sheet.points().len() <= TRY_ALL_POINTS {
-        return try_all(sheet);
+        return try_all(sheet, ranks);
     }
-    let choice = search_best(sheet)?;
+    let choice = search_best(sheet, ranks)?;
     let valid = valid(sheet, choice);
     assert!(valid, "the reference's search found a choice with a clash");
     Some(choice)
@@ -57,59 +66,49 @@ pub fn is_preferred(sheet: &Sheet, one: Choice, other: Choice) -> bool {
         .is_some_and(|position| one.contains(position))
 }
 
-/// Tries every choice, from the greatest inside count down, and gives the preferred one of the first
-/// count that has a valid one, or nothing if none is valid.
-pub fn try_all(sheet: &Sheet) -> Option<Choice> {
+/// Tries every choice and gives the best one, or nothing if none is valid. Choices with a clash on the
+/// map are passed over by the table, and so are those that aren't better than the one found so far;
+/// all others are marked in full.
+pub fn try_all(sheet: &Sheet, ranks: &Ranks) -> Option<Choice> {
     let table = Table::of(sheet);
-    let mut counts = (0..=sheet.points().len()).rev();
-    counts.find_map(|count| try_all_of(sheet, &table, count))
-}
-
-/// Tries every choice of this inside count and gives the preferred valid one, or nothing if none is
-/// valid. Choices with a clash on the map are passed over by the table, and so are those that aren't
-/// preferred to the one found so far; all others are marked in full.
-fn try_all_of(sheet: &Sheet, table: &Table, count: usize) -> Option<Choice> {
     let mut found = None;
-    each_choice(sheet.points().len(), count, &mut |choice| {
+    for bits in 0..1u64 << sheet.points().len() {
+        let choice = Choice(bits as u32);
         if table.map_is_clear(choice.0)
-            && found.is_none_or(|found| is_preferred(sheet, choice, found))
+            && found.is_none_or(|found| is_better(sheet, ranks, choice, found))
             && valid(sheet, choice)
         {
             found = Some(choice);
         }
-    });
+    }
     found
 }
 
-/// Hands every choice of `count` positions below n to `visit`.
-pub fn each_choice(n: usize, count: usize, visit: &mut dyn FnMut(Choice)) {
-    fn extend(n: usize, next: usize, missing: usize, bits: u32, visit: &mut dyn FnMut(Choice)) {
-        if missing == 0 {
-            return visit(Choice(bits));
-        }
-        // Enough positions have to be left for the missing ones.
-        for position in (next..n).take_while(|position| n - position >= missing) {
-            extend(n, position + 1, missing - 1, bits | 1 << position, visit);
-        }
+/// Is one choice better than another: has it a greater sum of ranks inside, or the same sum and is it
+/// preferred?
+fn is_better(sheet: &Sheet, ranks: &Ranks, one: Choice, other: Choice) -> bool {
+    match ranks.sum(one).cmp(&ranks.sum(other)) {
+        Ordering::Greater => true,
+        Ordering::Equal => is_preferred(sheet, one, other),
+        Ordering::Less => false,
     }
-    extend(n.min(32), 0, count, 0, visit);
 }
 
 /// The exact search, over the map's pixels. It has no limit: it ends with the preferred one of the
-/// choices with the greatest inside count that have no clash on the map, or with nothing if every
-/// choice has one.
+/// choices with the greatest sum of ranks inside that have no clash on the map, or with nothing if
+/// every choice has one.
 ///
-/// A point is put inside if the best count is still reached with it inside and with all points before
-/// it as decided, else outside. So every choice with the best count that is like this one up to a
+/// A point is put inside if the best sum is still reached with it inside and with all points before
+/// it as decided, else outside. So every choice with the best sum that is like this one up to a
 /// point, and unlike it there, has that point outside.
-pub fn search_best(sheet: &Sheet) -> Option<Choice> {
+pub fn search_best(sheet: &Sheet, ranks: &Ranks) -> Option<Choice> {
     let table = Table::of(sheet);
-    let mut search = Search::new(&table);
+    let mut search = Search::new(&table, ranks);
     let mut kept = States::default();
-    let best = search.best_count(kept)?;
+    let best = search.best_sum(kept)?;
     for position in 0..sheet.points().len() {
         let inside = kept.with(States::of(position, INSIDE));
-        kept = match search.best_count(inside) == Some(best) {
+        kept = match search.best_sum(inside) == Some(best) {
             true => inside,
             false => kept.with(States::of(position, OUTSIDE)),
         };
@@ -119,16 +118,16 @@ pub fn search_best(sheet: &Sheet) -> Option<Choice> {
 
 /// Are there several best choices, going by the map's pixels? Some point is then inside in one of them
 /// and outside in another.
-pub fn several_best(sheet: &Sheet) -> bool {
+pub fn several_best(sheet: &Sheet, ranks: &Ranks) -> bool {
     let table = Table::of(sheet);
-    let mut search = Search::new(&table);
-    let Some(best) = search.best_count(States::default()) else {
+    let mut search = Search::new(&table, ranks);
+    let Some(best) = search.best_sum(States::default()) else {
         return false;
     };
     (0..sheet.points().len()).any(|position| {
         [OUTSIDE, INSIDE].into_iter().all(|state| {
             let kept = States::of(position, state);
-            search.best_count(kept) == Some(best)
+            search.best_sum(kept) == Some(best)
         })
     })
 }
@@ -298,44 +297,51 @@ fn ones(bits: u32) -> impl Iterator<Item = usize> {
 ///
 /// Decisions are only made together with all they force. So a point that is still undecided has
 /// no link to a decided one that could be broken: whatever it forces on a decided point is already
-/// so, else that point would have forced it. How many of a set of undecided points can be inside then
-/// depends on the set alone, and each set is solved once.
+/// so, else that point would have forced it. Which sum of ranks a set of undecided points can have
+/// inside then depends on the set alone, and each set is solved once.
 struct Search<'a> {
     table: &'a Table,
-    /// By set of undecided points: the most that can be inside.
-    known: HashMap<u32, u32>,
+    ranks: &'a Ranks,
+    /// By set of undecided points: the greatest sum that can be inside.
+    known: HashMap<u32, u16>,
 }
 
-impl Search<'_> {
-    fn new(table: &Table) -> Search<'_> {
+impl<'a> Search<'a> {
+    fn new(table: &'a Table, ranks: &'a Ranks) -> Search<'a> {
         Search {
             table,
+            ranks,
             known: HashMap::new(),
         }
     }
 
-    /// The greatest inside count of the choices that keep these states and have no clash on the map,
-    /// or nothing if there is none.
-    fn best_count(&mut self, kept: States) -> Option<u32> {
+    /// The sum of ranks of these points.
+    fn sum(&self, points: u32) -> u16 {
+        self.ranks.sum(Choice(points))
+    }
+
+    /// The greatest sum of ranks inside of the choices that keep these states and have no clash on
+    /// the map, or nothing if there is none.
+    fn best_sum(&mut self, kept: States) -> Option<u16> {
         let decided = self.table.all_forced(kept);
         if !decided.agree() {
             return None;
         }
         let undecided = self.table.points() & !decided.points();
-        Some(decided.inside.count_ones() + self.most(undecided))
+        Some(self.sum(decided.inside) + self.most(undecided))
     }
 
-    /// The most of these undecided points that can be inside.
-    fn most(&mut self, undecided: u32) -> u32 {
+    /// The greatest sum of ranks that these undecided points can have inside.
+    fn most(&mut self, undecided: u32) -> u16 {
         // Parts without links between them are decided on their own.
-        let mut count = 0;
+        let mut sum = 0;
         let mut rest = undecided;
         while rest != 0 {
             let part = self.linked_part(rest);
-            count += self.most_of_part(part);
+            sum += self.most_of_part(part);
             rest &= !part;
         }
-        count
+        sum
     }
 
     /// All points of the set that are linked, over any number of steps, to its first point.
@@ -355,21 +361,21 @@ impl Search<'_> {
     }
 
     /// As `most`, for points that are all linked together.
-    fn most_of_part(&mut self, part: u32) -> u32 {
+    fn most_of_part(&mut self, part: u32) -> u16 {
         let Some(position) = self.most_forcing(part) else {
-            return part.count_ones();
+            return self.sum(part);
         };
-        if let Some(&count) = self.known.get(&part) {
-            return count;
+        if let Some(&sum) = self.known.get(&part) {
+            return sum;
         }
         let [outside, inside] = self.table.forced[position];
         let [with, without] = [inside, outside].map(|states| {
-            let sure = (states.inside & part).count_ones();
+            let sure = self.sum(states.inside & part);
             sure + self.most(part & !states.points())
         });
-        let count = with.max(without);
-        self.known.insert(part, count);
-        count
+        let sum = with.max(without);
+        self.known.insert(part, sum);
+        sum
     }
 
     /// The point that, put inside, forces the most points of the set outside; of several the one

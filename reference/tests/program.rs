@@ -54,12 +54,20 @@ fn three_on_a_ridge() -> Vec<u8> {
     sheet_bytes((20, 12), (4, 2), &points)
 }
 
-/// A call of a script.
+/// A call of a script with one part.
 fn call(kind: u8, part: &[u8]) -> Vec<u8> {
-    let mut bytes = vec![kind];
-    bytes.extend((part.len() as u16).to_le_bytes());
-    bytes.extend(part);
-    bytes
+    [&[kind][..], &length_and(part)].concat()
+}
+
+/// A load with a rank list.
+fn ranked_load(sheet: &[u8], ranks: &[u8]) -> Vec<u8> {
+    [&[3][..], &length_and(sheet), &length_and(ranks)].concat()
+}
+
+/// A part: its length and its bytes.
+fn length_and(part: &[u8]) -> Vec<u8> {
+    let length = (part.len() as u16).to_le_bytes();
+    [&length[..], part].concat()
 }
 
 #[test]
@@ -152,7 +160,8 @@ fn desk() {
     // Another kind byte, and calls cut short at each place.
     for rest in [
         &[0, 0, 0][..],
-        &[3, 0, 0],
+        &[4, 0, 0, 0, 0],
+        &[13, 0, 0, 0, 0],
         &[1],
         &[1, 0],
         &[2, 1, 0],
@@ -160,4 +169,42 @@ fn desk() {
     ] {
         assert_eq!(run("desk", &[&script[..], rest].concat()), bad);
     }
+}
+
+#[test]
+fn desk_with_ranks() {
+    let script = [
+        ranked_load(&tie(false), &[]),
+        call(2, &[0]),
+        ranked_load(&tie(false), &[2, 1, 2]),
+        call(2, &[1, 0]),
+        call(2, &[1, 1]),
+        call(2, &[2, 0, 1]),
+        ranked_load(&p1(), &[2, 1, 2]),
+        ranked_load(&p1(), &[3, 1, 2]),
+        ranked_load(&p1(), &[3, 1, 2, 0]),
+        ranked_load(&p1()[..27], &[3, 1, 2, 0]),
+        ranked_load(&three_on_a_ridge(), &[3, 1, 2, 9]),
+        ranked_load(&three_on_a_ridge(), &[3, 1, 2, 10]),
+        call(2, &[0]),
+        ranked_load(&p1(), &[3, 9, 8, 7]),
+        call(2, &[2, 1, 2]),
+        call(2, &[1, 2]),
+        call(1, &p1()),
+        call(2, &[1, 2]),
+    ]
+    .concat();
+    let lines = "refused 62\nrefused 51\nloaded 2 2\n1 valid 1 1\n2 valid 2 0\n\
+                 3 clash 0 1 labels\nrefused 62\nrefused 62\nrefused 63\nrefused 16\n\
+                 refused 61\nrefused 63\n4 valid 0 2\nloaded 3 15\n5 valid 15 0\n\
+                 6 valid 7 8\nloaded 3 2\n7 valid 1 1\n";
+    assert_eq!(run("desk", &script), lines);
+    // A load with a rank list cut short at each place: it isn't made, and gives no line of its own.
+    let bad = format!("{lines}bad call\n");
+    let last = ranked_load(&p1(), &[3, 9, 8, 7]);
+    for length in 1..last.len() {
+        assert_eq!(run("desk", &[&script[..], &last[..length]].concat()), bad);
+    }
+    let whole = format!("{lines}loaded 3 15\n");
+    assert_eq!(run("desk", &[&script[..], &last].concat()), whole);
 }

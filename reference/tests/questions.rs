@@ -2,8 +2,8 @@
 
 use reference::random::sheet_bytes;
 use reference::{
-    check_sheet, making_no, plate_bytes, read_plate, zeroes_workspace, Choice, Desk, Sheet,
-    Verdict, WORKSPACE_NUMBERS,
+    check_sheet, make_ranked, making_no, plate_bytes, read_plate, zeroes_workspace, Choice, Desk,
+    Ranks, Sheet, Verdict, WORKSPACE_NUMBERS,
 };
 
 /// P1's sheet.
@@ -280,6 +280,180 @@ fn workspaces_after_makings_and_loads() {
     assert_eq!(zeroed(&ridge(&[(20, 2, 3)]), enough), [false, false]);
     // Too little output.
     assert!(!zeroes_workspace(making_no(&ridge(&[]), 35, enough)));
+    // With a rank list.
+    let zeroed_with =
+        |sheet: &[u8], list| ranked_making_and_load(sheet, list).map(zeroes_workspace);
+    assert_eq!(zeroed_with(&p1(), &[3, 2, 1, 1]), [true, true]);
+    assert_eq!(zeroed_with(&p1(), &[3, 2, 1]), [false, false]);
+    assert_eq!(zeroed_with(&p1(), &[3, 2, 1, 0]), [false, false]);
+    assert_eq!(zeroed_with(&ridge(&[]), &[3, 2, 1, 1]), [true, true]);
+    assert_eq!(zeroed_with(&ridge(&[]), &[3, 2, 1]), [false, false]);
+    assert_eq!(zeroed_with(&ridge(&[]), &[3, 2, 1, 0]), [false, false]);
+}
+
+/// What a making with this rank list answers that has output and workspace enough, and a load onto a
+/// desk with P1. A desk that refuses is as it was.
+fn ranked_making_and_load(sheet: &[u8], list: &[u8]) -> [u8; 2] {
+    let made = make_ranked(sheet, Some(list), 12 + 8 * 32, WORKSPACE_NUMBERS);
+    let mut desk = desk_with_p1();
+    let load = desk.load_ranked(sheet, Some(list), WORKSPACE_NUMBERS);
+    assert!(load == 0 || desk == desk_with_p1());
+    [made.err().unwrap_or(0), load]
+}
+
+/// P3's sheet: two points, both inside.
+fn p3() -> Vec<u8> {
+    sheet_bytes((20, 12), (4, 2), &[(1, 2, 3), (2, 6, 4)])
+}
+
+#[test]
+fn question_62_the_rank_lists_count_and_length() {
+    let number = |list: &[u8]| ranked_making_and_load(&p3(), list);
+    assert_eq!(number(&[2, 1, 9]), [0, 0]);
+    // The count byte is missing.
+    assert_eq!(number(&[]), [62, 62]);
+    // The count byte isn't 2, with three bytes and with as many as it says.
+    for count in [0, 1, 3, 9, 254, 255] {
+        assert_eq!(number(&[count, 1, 1]), [62, 62]);
+        let ranks = vec![1; usize::from(count)];
+        assert_eq!(number(&[&[count][..], &ranks].concat()), [62, 62]);
+    }
+    // A byte too short and too long, and more.
+    assert_eq!(number(&[2, 1]), [62, 62]);
+    assert_eq!(number(&[2]), [62, 62]);
+    assert_eq!(number(&[2, 1, 1, 1]), [62, 62]);
+    assert_eq!(number(&[&[2][..], &[1; 258]].concat()), [62, 62]);
+    assert_eq!(number(&[&[2][..], &[1; 65_538]].concat()), [62, 62]);
+    // The ranks without their count.
+    assert_eq!(number(&[1, 1]), [62, 62]);
+    assert_eq!(number(&[2, 2]), [62, 62]);
+}
+
+#[test]
+fn question_62_with_no_points_and_with_32() {
+    let empty = sheet_bytes((20, 12), (4, 2), &[]);
+    assert_eq!(ranked_making_and_load(&empty, &[0]), [0, 0]);
+    assert_eq!(ranked_making_and_load(&empty, &[]), [62, 62]);
+    assert_eq!(ranked_making_and_load(&empty, &[1]), [62, 62]);
+    assert_eq!(ranked_making_and_load(&empty, &[0, 1]), [62, 62]);
+    assert_eq!(ranked_making_and_load(&empty, &[1, 1]), [62, 62]);
+    let points: Vec<_> = (0..32).map(|i| (i + 1, i, i)).collect();
+    let most = sheet_bytes((40, 40), (4, 2), &points);
+    let list = [&[32][..], &[1; 32]].concat();
+    assert_eq!(ranked_making_and_load(&most, &list), [0, 0]);
+    assert_eq!(ranked_making_and_load(&most, &list[..32]), [62, 62]);
+    let longer = [&list[..], &[1]].concat();
+    assert_eq!(ranked_making_and_load(&most, &longer), [62, 62]);
+}
+
+#[test]
+fn question_63_each_rank() {
+    let number = |list: &[u8]| ranked_making_and_load(&p1(), list);
+    for rank in 0..=255 {
+        let wanted = if (1..=9).contains(&rank) { 0 } else { 63 };
+        // First, in the middle, last, and all of them.
+        assert_eq!(number(&[3, rank, 1, 1]), [wanted; 2]);
+        assert_eq!(number(&[3, 1, rank, 1]), [wanted; 2]);
+        assert_eq!(number(&[3, 1, 1, rank]), [wanted; 2]);
+        assert_eq!(number(&[3, rank, rank, rank]), [wanted; 2]);
+    }
+    assert_eq!(number(&[3, 0, 5, 10]), [63, 63]);
+}
+
+#[test]
+fn question_62_comes_before_63() {
+    let number = |list: &[u8]| ranked_making_and_load(&p1(), list);
+    assert_eq!(number(&[2, 0, 1, 1]), [62, 62]);
+    assert_eq!(number(&[4, 1, 1, 10]), [62, 62]);
+    assert_eq!(number(&[3, 0, 1]), [62, 62]);
+    assert_eq!(number(&[3, 1, 1, 1, 0]), [62, 62]);
+    assert_eq!(number(&[3, 10, 1, 1, 1]), [62, 62]);
+    assert_eq!(number(&[0, 0, 0, 0]), [62, 62]);
+}
+
+#[test]
+fn questions_62_and_63_come_before_61() {
+    let sheet = ridge(&[]);
+    assert_eq!(ranked_making_and_load(&sheet, &[3, 1, 9, 5]), [61, 61]);
+    assert_eq!(ranked_making_and_load(&sheet, &[3, 1, 9]), [62, 62]);
+    assert_eq!(ranked_making_and_load(&sheet, &[]), [62, 62]);
+    assert_eq!(ranked_making_and_load(&sheet, &[3, 0, 9, 5]), [63, 63]);
+    assert_eq!(ranked_making_and_load(&sheet, &[3, 1, 9, 10]), [63, 63]);
+    assert_eq!(ranked_making_and_load(&sheet, &[2, 1, 9, 10]), [62, 62]);
+}
+
+#[test]
+fn questions_62_and_63_come_after_the_sheets_and_after_21_and_22() {
+    let enough = WORKSPACE_NUMBERS;
+    let lists: [(&[u8], u8); 4] = [
+        (&[3, 1, 1, 1], 0),
+        (&[], 62),
+        (&[3, 1, 1], 62),
+        (&[3, 1, 1, 10], 63),
+    ];
+    for (list, number) in lists {
+        let made = |sheet: &[u8], output, workspace| {
+            let plate = make_ranked(sheet, Some(list), output, workspace);
+            plate.err().unwrap_or(0)
+        };
+        assert_eq!(made(&p1(), 36, enough), number);
+        assert_eq!(made(&p1(), 35, enough), 21);
+        assert_eq!(made(&p1(), 35, enough - 1), 21);
+        assert_eq!(made(&p1(), 36, enough - 1), 22);
+        assert_eq!(made(&p1()[..27], 36, enough), 16);
+        assert_eq!(made(&p1_with(22, 17), 35, 0), 19);
+        let loaded =
+            |sheet: &[u8], workspace| desk_with_p1().load_ranked(sheet, Some(list), workspace);
+        assert_eq!(loaded(&p1(), enough), number);
+        assert_eq!(loaded(&p1(), enough - 1), 22);
+        assert_eq!(loaded(&p1(), 0), 22);
+        assert_eq!(loaded(&p1()[..27], enough), 16);
+        assert_eq!(loaded(&p1_with(22, 17), 0), 19);
+        // A sheet without a valid choice.
+        assert_eq!(made(&ridge(&[]), 35, enough), 21);
+        assert_eq!(made(&ridge(&[]), 36, enough - 1), 22);
+        assert_eq!(loaded(&ridge(&[]), enough - 1), 22);
+    }
+}
+
+#[test]
+fn without_a_list_62_and_63_are_never_given() {
+    let sheet = Sheet::read(&p1()).unwrap();
+    assert_eq!(Ranks::of(&sheet, None), Ok(Ranks::ones(&sheet)));
+    assert_eq!(Ranks::of(&sheet, Some(&[])), Err(62));
+    let ones = Ranks::of(&sheet, Some(&[3, 1, 1, 1]));
+    assert_eq!(ones, Ok(Ranks::ones(&sheet)));
+    assert_eq!(make_ranked(&p1(), None, 36, WORKSPACE_NUMBERS).err(), None);
+}
+
+#[test]
+fn a_load_with_62_or_63_keeps_what_was_loaded() {
+    let mut desk = Desk::fresh();
+    let list = [2, 3, 4];
+    assert_eq!(desk.load_ranked(&p3(), Some(&[]), WORKSPACE_NUMBERS), 62);
+    assert_eq!(desk, Desk::fresh());
+    assert_eq!(desk.mark(&[0]), Err(51));
+    assert_eq!(desk.load_ranked(&p3(), Some(&list), WORKSPACE_NUMBERS), 0);
+    assert_eq!(desk.mark(&[1, 0]).map(|marked| marked.number), Ok(1));
+    let before = desk.clone();
+    let wrong: [(&[u8], u8); 3] = [(&[3, 1, 1], 62), (&[3, 1, 1, 0], 63), (&[3, 10, 1, 1], 63)];
+    for (list, number) in wrong {
+        assert_eq!(
+            desk.load_ranked(&p1(), Some(list), WORKSPACE_NUMBERS),
+            number
+        );
+        assert_eq!(desk, before);
+    }
+    // P3's two points have 3 and 4.
+    let marked = desk.mark(&[2, 0, 1]).unwrap();
+    assert_eq!(marked.number, 2);
+    assert_eq!(
+        marked.verdict,
+        Verdict::Valid {
+            sum: 7,
+            shortfall: 0
+        }
+    );
 }
 
 /// The number for P1 followed by these bytes.
@@ -494,7 +668,7 @@ fn a_load_replaces_the_sheet_and_a_refused_one_does_not() {
     assert_eq!(
         marked.verdict,
         Verdict::Valid {
-            count: 2,
+            sum: 2,
             shortfall: 0
         }
     );
@@ -518,7 +692,7 @@ fn a_load_with_61_keeps_the_sheet_before() {
     assert_eq!(
         marked.verdict,
         Verdict::Valid {
-            count: 2,
+            sum: 2,
             shortfall: 0
         }
     );

@@ -1,20 +1,20 @@
 //! Randomized tests: the runs against pixels in a set, the search against trying every choice, the
 //! margin columns against the rows that outer labels take. In about a third of the sheets points
-//! share rows.
+//! share rows. Where a best choice is looked for, half of the times there are ranks.
 
 use std::collections::{HashMap, HashSet};
 use std::ops::RangeInclusive;
 
 use reference::pixels::{marked_runs, share_a_pixel};
 use reference::random::{
-    accepted, distinct_rows_sheet, falling_distinct_rows_sheet, falling_sheet, random_sheet,
-    shared_rows_sheet, with_room, Random,
+    accepted, distinct_rows_sheet, falling_distinct_rows_sheet, falling_sheet, random_ranks,
+    random_sheet, shared_rows_sheet, with_room, Random,
 };
 use reference::search::{search_best, try_all};
 use reference::{
-    best_choice, best_count, check_sheet, first_clash, inside_positions, is_preferred, making_no,
-    margin_columns, plate_bytes, read_plate, run_script, several_best, valid, Choice, ClashKind,
-    Desk, Sheet, WORKSPACE_NUMBERS,
+    best_choice, best_count, best_ranked, check_sheet, first_clash, inside_positions, is_preferred,
+    make, make_ranked, making_no, margin_columns, plate_bytes, read_plate, run_script,
+    several_best, valid, Choice, ClashKind, Desk, Marked, Ranks, Sheet, Verdict, WORKSPACE_NUMBERS,
 };
 
 /// The sheet as it is, or on a map with room for every label: one as often as the other.
@@ -39,10 +39,15 @@ fn small_dense(random: &mut Random, most_points: u16, side: u16, most_label: u16
     some_with_room(random, sheet)
 }
 
-/// A small random sheet that often has several best choices: columns fall as rows rise, so that labels
-/// meet and leaders are seldom in their way, and there is room for every label.
+/// A small random sheet as in `tied`.
 fn small_tied(random: &mut Random, most_points: u16) -> Sheet {
     let n = random.between(2, most_points);
+    tied(random, n)
+}
+
+/// A random sheet of n points that often has several best choices: columns fall as rows rise, so that
+/// labels meet and leaders are seldom in their way, and there is room for every label.
+fn tied(random: &mut Random, n: u16) -> Sheet {
     let map = (random.between(4, 4 * n), random.between(n, 2 * n));
     let label = (random.between(2, 8), random.between(2, 4));
     let noise = random.between(1, label.0);
@@ -56,6 +61,29 @@ fn any_size(random: &mut Random, most_side: u16, most_label: u16) -> Sheet {
     let label = (random.between(1, most_label), random.between(1, most_label));
     let n = random.between(1, 32);
     accepted(|| random_sheet(random, (side, side), label, n))
+}
+
+/// Random ranks for a sheet.
+fn any_ranks(random: &mut Random, sheet: &Sheet) -> Ranks {
+    let list = random_ranks(random, sheet.points().len() as u8);
+    Ranks::read(sheet, &list).unwrap()
+}
+
+/// Ranks for a sheet: every one 1, as with no list lent, or random ones, one as often as the other.
+fn some_ranks(random: &mut Random, sheet: &Sheet) -> Ranks {
+    match random.below(2) {
+        0 => Ranks::ones(sheet),
+        _ => any_ranks(random, sheet),
+    }
+}
+
+/// The sum of ranks inside, one by one and in document 02's words.
+fn sum_inside(sheet: &Sheet, ranks: &Ranks, choice: Choice) -> u16 {
+    let mut sum = 0;
+    for position in inside_positions(sheet, choice) {
+        sum += u16::from(ranks.by_position()[position]);
+    }
+    sum
 }
 
 /// Do two points of the sheet share a row?
@@ -172,15 +200,19 @@ fn runs_agree_with_sets_of_pixels() {
     assert!(seen.iter().all(|&times| times > 200), "{seen:?}");
 }
 
-/// A choice as one number: of two choices with as many points inside the preferred one has the greater
+/// A choice as one number: of two choices with the same sum inside the preferred one has the greater
 /// number. The first point stands for the most, so the first difference decides.
 fn preference(choice: Choice) -> u32 {
     choice.0.reverse_bits()
 }
 
-/// The choice with the most points inside, and of several the preferred one.
-fn preferred_of(choices: impl Iterator<Item = Choice>) -> Option<Choice> {
-    choices.max_by_key(|&choice| (choice.0.count_ones(), preference(choice)))
+/// The choice with the greatest sum of ranks inside, and of several the preferred one.
+fn preferred_of(
+    sheet: &Sheet,
+    ranks: &Ranks,
+    choices: impl Iterator<Item = Choice>,
+) -> Option<Choice> {
+    choices.max_by_key(|&choice| (sum_inside(sheet, ranks, choice), preference(choice)))
 }
 
 #[test]
@@ -200,6 +232,7 @@ fn the_best_choice_agrees_with_sets_of_pixels_over_all_choices() {
     let mut random = Random::new(2);
     let mut none = 0;
     let mut several = 0;
+    let mut by_rank = 0;
     for round in 0..1500 {
         let sheet = match round % 3 {
             0 => small_tied(&mut random, 6),
@@ -207,19 +240,98 @@ fn the_best_choice_agrees_with_sets_of_pixels_over_all_choices() {
         };
         let valid = |choice: &Choice| clash_by_pixels(&sheet, *choice).is_none();
         let choices = || (0..1 << sheet.points().len()).map(Choice).filter(valid);
-        let best = preferred_of(choices());
-        assert_eq!(best_choice(&sheet), best);
-        let count = best.map_or(0, |best| best.0.count_ones());
+        let unranked = preferred_of(&sheet, &Ranks::ones(&sheet), choices());
+        assert_eq!(best_choice(&sheet), unranked);
+        let count = unranked.map_or(0, |best| best.0.count_ones());
         assert_eq!(best_count(&sheet), count as usize);
-        let as_many = choices().filter(|choice| choice.0.count_ones() == count);
-        let more_than_one = as_many.count() > 1;
-        assert_eq!(several_best(&sheet), more_than_one);
-        several += u32::from(more_than_one);
-        none += u32::from(best.is_none());
+        none += u32::from(unranked.is_none());
+        for ranks in [Ranks::ones(&sheet), any_ranks(&mut random, &sheet)] {
+            let best = preferred_of(&sheet, &ranks, choices());
+            assert_eq!(best_ranked(&sheet, &ranks), best);
+            let sum = |choice| sum_inside(&sheet, &ranks, choice);
+            let as_good = choices().filter(|&choice| Some(sum(choice)) == best.map(sum));
+            let more_than_one = as_good.count() > 1;
+            assert_eq!(several_best(&sheet, &ranks), more_than_one);
+            several += u32::from(more_than_one);
+            by_rank += u32::from(best != unranked);
+        }
     }
-    // At times there is no valid choice, and often there are several best ones.
+    // At times there is no valid choice, and often there are several best ones. At times the ranks
+    // decide for another choice than the best one without a list.
     assert!(none > 20, "{none}");
-    assert!(several > 200, "{several}");
+    assert!(several > 300, "{several}");
+    assert!(by_rank > 80, "{by_rank}");
+}
+
+#[test]
+fn makings_and_desks_with_ranks_agree_with_sets_of_pixels() {
+    let mut random = Random::new(16);
+    let mut short_of_the_best = 0;
+    for round in 0..600 {
+        let sheet = match round % 2 {
+            0 => small_tied(&mut random, 6),
+            _ => small_dense(&mut random, 6, 10, 5),
+        };
+        let n = sheet.points().len();
+        let list = random_ranks(&mut random, n as u8);
+        let ranks = Ranks::read(&sheet, &list).unwrap();
+        assert_eq!(ranks.by_position(), &list[1..]);
+        let choices = || (0..1 << n).map(Choice);
+        let valid = |choice: &Choice| clash_by_pixels(&sheet, *choice).is_none();
+        let best = preferred_of(&sheet, &ranks, choices().filter(valid));
+        let made = make_ranked(sheet.bytes(), Some(&list), 12 + 8 * n, WORKSPACE_NUMBERS);
+        let plate = best.map(|best| plate_bytes(&sheet, best));
+        assert_eq!(made, plate.ok_or(61));
+        let mut desk = Desk::fresh();
+        let loaded = desk.load_ranked(sheet.bytes(), Some(&list), WORKSPACE_NUMBERS);
+        let Some(best) = best else {
+            assert_eq!((loaded, desk), (61, Desk::fresh()));
+            continue;
+        };
+        let best = sum_inside(&sheet, &ranks, best);
+        assert_eq!((loaded, desk.loaded()), (0, Some((n, best))));
+        assert_eq!(desk.sheet_and_ranks(), Some((&sheet, &ranks)));
+        // Every list that there is.
+        for (number, choice) in (1..).zip(choices()) {
+            let positions = inside_positions(&sheet, choice);
+            let mut list = vec![positions.len() as u8];
+            list.extend(positions.iter().map(|&position| position as u8));
+            let sum = sum_inside(&sheet, &ranks, choice);
+            let verdict = match clash_by_pixels(&sheet, choice) {
+                None => Verdict::Valid {
+                    sum,
+                    shortfall: best - sum,
+                },
+                Some((first, second, kind)) => Verdict::Clash {
+                    first,
+                    second,
+                    kind,
+                },
+            };
+            assert_eq!(desk.mark(&list), Ok(Marked { number, verdict }));
+            short_of_the_best += u32::from(valid(&choice) && sum < best);
+        }
+    }
+    assert!(short_of_the_best > 2000, "{short_of_the_best}");
+}
+
+#[test]
+fn the_same_rank_for_all_is_as_no_list() {
+    let mut random = Random::new(17);
+    for _ in 0..500 {
+        let sheet = any_size(&mut random, 60, 10);
+        let n = sheet.points().len();
+        let output = 12 + 8 * n;
+        let unranked = make(sheet.bytes(), output, WORKSPACE_NUMBERS);
+        for rank in [1, 2, 9] {
+            let list = [&[n as u8][..], &vec![rank; n]].concat();
+            let ranked = make_ranked(sheet.bytes(), Some(&list), output, WORKSPACE_NUMBERS);
+            assert_eq!(ranked, unranked);
+            let ranks = Ranks::read(&sheet, &list).unwrap();
+            let tied = several_best(&sheet, &Ranks::ones(&sheet));
+            assert_eq!(several_best(&sheet, &ranks), tied);
+        }
+    }
 }
 
 #[test]
@@ -315,11 +427,13 @@ fn the_best_choice_agrees_with_marking_every_choice() {
     let mut random = Random::new(3);
     for _ in 0..400 {
         let sheet = small_dense(&mut random, 10, 20, 6);
+        let ranks = some_ranks(&mut random, &sheet);
         let choices = (0..1 << sheet.points().len()).map(Choice);
-        let best = preferred_of(choices.filter(|&choice| valid(&sheet, choice)));
-        assert_eq!(best_choice(&sheet), best);
-        assert_eq!(try_all(&sheet), best);
-        assert_eq!(search_best(&sheet), best);
+        let valid = choices.filter(|&choice| valid(&sheet, choice));
+        let best = preferred_of(&sheet, &ranks, valid);
+        assert_eq!(best_ranked(&sheet, &ranks), best);
+        assert_eq!(try_all(&sheet, &ranks), best);
+        assert_eq!(search_best(&sheet, &ranks), best);
     }
 }
 
@@ -327,6 +441,7 @@ fn the_best_choice_agrees_with_marking_every_choice() {
 fn the_search_agrees_with_trying_every_choice() {
     let mut random = Random::new(4);
     let mut several = 0;
+    let mut by_rank = 0;
     for round in 0..3000 {
         // Mostly small sheets, and some on which trying every choice takes longer.
         let most_points = if round % 20 == 0 { 17 } else { 12 };
@@ -334,11 +449,16 @@ fn the_search_agrees_with_trying_every_choice() {
             0 => small_tied(&mut random, most_points),
             _ => small_dense(&mut random, most_points, 30, 8),
         };
-        assert_eq!(search_best(&sheet), try_all(&sheet));
-        several += u32::from(several_best(&sheet));
+        for ranks in [Ranks::ones(&sheet), any_ranks(&mut random, &sheet)] {
+            let best = search_best(&sheet, &ranks);
+            assert_eq!(best, try_all(&sheet, &ranks));
+            several += u32::from(several_best(&sheet, &ranks));
+            by_rank += u32::from(best != best_choice(&sheet));
+        }
     }
-    // Many sheets have several best choices.
-    assert!(several > 800, "{several}");
+    // Many sheets have several best choices, and in many the ranks decide.
+    assert!(several > 1200, "{several}");
+    assert!(by_rank > 250, "{by_rank}");
 }
 
 /// Which labels leave the map and which labels and leaders share a pixel on it, from sets of pixels:
@@ -400,17 +520,35 @@ impl Conflicts {
     }
 }
 
-/// Of the valid choices with the most points inside the one with the greatest number, or nothing if
-/// none is valid: every one is tried. A choice that would be the one so far is marked in full, margin
+/// By choice: the sum of ranks inside, of all choices of a sheet.
+fn all_sums(ranks: &Ranks) -> Vec<u16> {
+    let mut sums = vec![0];
+    // The choices with a point inside come after those without it and the points after it.
+    for &rank in ranks.by_position() {
+        let with: Vec<u16> = sums.iter().map(|sum| sum + u16::from(rank)).collect();
+        sums.extend(with);
+    }
+    sums
+}
+
+/// Of the valid choices with the greatest sum the one with the greatest number, or nothing if none is
+/// valid: every one is tried. A choice that would be the one so far is marked in full, margin
 /// included.
-fn best_by(sheet: &Sheet, conflicts: &Conflicts, number: fn(Choice) -> u32) -> Option<Choice> {
+fn best_by(
+    sheet: &Sheet,
+    conflicts: &Conflicts,
+    sums: &[u16],
+    number: fn(Choice) -> u32,
+) -> Option<Choice> {
     let mut best = None;
     let mut found = None;
-    for choice in (0..1u32 << sheet.points().len()).map(Choice) {
-        let rank = Some((choice.0.count_ones(), number(choice)));
-        if rank > best && conflicts.none_among(choice.0) && clash_by_pixels(sheet, choice).is_none()
+    for (choice, &sum) in (0..).map(Choice).zip(sums) {
+        let place = Some((sum, number(choice)));
+        if place > best
+            && conflicts.none_among(choice.0)
+            && clash_by_pixels(sheet, choice).is_none()
         {
-            best = rank;
+            best = place;
             found = Some(choice);
         }
     }
@@ -439,21 +577,29 @@ fn the_search_agrees_with_every_choice_up_to_20_points() {
     let mut some_in_a_shared_row = 0;
     let mut several = 0;
     let mut last_difference = 0;
+    let mut by_rank = 0;
     let mut none = 0;
     for n in 13..=20 {
-        for _ in 0..150 {
-            let sheet = crowded(&mut random, n);
+        for round in 0..150 {
+            let sheet = match round % 4 {
+                0 => tied(&mut random, n),
+                _ => crowded(&mut random, n),
+            };
             assert_eq!(sheet.points().len(), usize::from(n));
+            let ranks = some_ranks(&mut random, &sheet);
+            let sums = all_sums(&ranks);
             let conflicts = Conflicts::of(&sheet);
-            let preferred = best_by(&sheet, &conflicts, preference);
-            assert_eq!(search_best(&sheet), preferred);
-            assert_eq!(best_choice(&sheet), preferred);
+            let best_by = |number| best_by(&sheet, &conflicts, &sums, number);
+            let preferred = best_by(preference);
+            assert_eq!(search_best(&sheet, &ranks), preferred);
+            assert_eq!(best_ranked(&sheet, &ranks), preferred);
+            by_rank += u32::from(preferred != best_choice(&sheet));
             // Another best one is there if the one that is preferred last is another.
-            let last = best_by(&sheet, &conflicts, |choice| !preference(choice));
-            assert_eq!(several_best(&sheet), preferred != last);
+            let last = best_by(|choice| !preference(choice));
+            assert_eq!(several_best(&sheet, &ranks), preferred != last);
             several += u32::from(preferred != last);
             // The last difference would decide for the greater number as it is.
-            let by_last_difference = best_by(&sheet, &conflicts, |choice| choice.0);
+            let by_last_difference = best_by(|choice| choice.0);
             last_difference += u32::from(preferred != by_last_difference);
             let something_to_do =
                 preferred.is_some_and(|best| (2..u32::from(n) - 1).contains(&best.0.count_ones()));
@@ -466,12 +612,13 @@ fn the_search_agrees_with_every_choice_up_to_20_points() {
     }
     // Most of the sheets leave the search something to do, and many of these have labels that
     // leave the map or points that share a row. Many have several best choices, and in many of these
-    // the last difference would decide otherwise. Some have no valid choice.
+    // the last difference would decide otherwise. In many the ranks decide. Some have no valid choice.
     assert!(some_inside > 600, "{some_inside}");
     assert!(some_overhang > 200, "{some_overhang}");
     assert!(some_in_a_shared_row > 100, "{some_in_a_shared_row}");
-    assert!(several > 400, "{several}");
-    assert!(last_difference > 400, "{last_difference}");
+    assert!(several > 300, "{several}");
+    assert!(last_difference > 300, "{last_difference}");
+    assert!(by_rank > 100, "{by_rank}");
     assert!(none > 50, "{none}");
 }
 
@@ -489,7 +636,8 @@ fn large_sheets_have_valid_best_choices_that_no_neighbour_beats() {
         let label = (random.between(1, 30), random.between(1, 30));
         let sheet = accepted(|| random_sheet(&mut random, (side, side), label, 32));
         let sheet = some_with_room(&mut random, sheet);
-        let Some(best) = best_choice(&sheet) else {
+        let ranks = some_ranks(&mut random, &sheet);
+        let Some(best) = best_ranked(&sheet, &ranks) else {
             assert!(shares_a_row(&sheet));
             continue;
         };
@@ -502,10 +650,14 @@ fn large_sheets_have_valid_best_choices_that_no_neighbour_beats() {
                 assert!(more == best || !valid(&sheet, more));
             }
         }
-        // So does putting a point inside for a later one, which would be preferred.
+        // So does putting a point inside for one of a lesser rank, and for a later one of the same
+        // rank, which would be preferred.
+        let rank = |position: usize| ranks.by_position()[position];
         for a in (0..32).filter(|&a| !best.contains(a)) {
-            for b in (a..32).filter(|&b| best.contains(b)) {
-                assert!(!valid(&sheet, exchanged(best, a, b)));
+            for b in (0..32).filter(|&b| best.contains(b)) {
+                if rank(a) > rank(b) || rank(a) == rank(b) && a < b {
+                    assert!(!valid(&sheet, exchanged(best, a, b)));
+                }
             }
         }
         let reading_bytes = plate_bytes(&sheet, best);
@@ -708,6 +860,17 @@ fn any_bytes_get_an_answer() {
         assert!(matches!(number, 0 | 11..=20 | 22 | 61));
         assert_eq!(number != 0, desk == Desk::fresh());
         let _ = desk.mark(&bytes);
+        // The bytes as a rank list, from the point count on, and as a sheet beside some list.
+        let list = bytes.get(9..).unwrap_or_default();
+        let sheet = small_dense(&mut random, 6, 12, 5);
+        for (sheet, list) in [(sheet.bytes(), list), (&bytes, &[1, 5])] {
+            let mut desk = Desk::fresh();
+            let number = desk.load_ranked(sheet, Some(list), WORKSPACE_NUMBERS);
+            assert!(matches!(number, 0 | 11..=20 | 61..=63));
+            let made = make_ranked(sheet, Some(list), 12 + 8 * 32, WORKSPACE_NUMBERS);
+            assert_eq!(made.err().unwrap_or(0), number);
+            assert_eq!(number != 0, desk == Desk::fresh());
+        }
         let _ = run_script(&bytes);
     }
 }

@@ -1,13 +1,16 @@
 //! The worked plates P1 to P10, the other examples and the plausible errors of document 01. Labels
 //! at the map's edge are worked out from document 02 (a), margin columns from document 02 (b), shared
-//! rows from document 02 (c), the preferred best choice from document 02 (d).
+//! rows from document 02 (c), the preferred best choice from document 02 (d), ranks from document
+//! 02 (e).
+
+use std::cmp::Reverse;
 
 use reference::random::sheet_bytes;
-use reference::search::{each_choice, search_best, try_all};
+use reference::search::{search_best, try_all};
 use reference::{
-    best_choice, best_count, check_sheet, first_clash, is_preferred, listing, make, making_no,
-    margin_columns, margin_width, plate_bytes, printed, read_plate, several_best, valid, Choice,
-    ClashKind, Desk, Marked, Sheet, Verdict, WORKSPACE_NUMBERS,
+    best_choice, best_count, best_ranked, check_sheet, first_clash, is_preferred, listing, make,
+    make_ranked, making_no, margin_columns, margin_width, plate_bytes, printed, read_plate,
+    several_best, valid, Choice, ClashKind, Desk, Marked, Ranks, Sheet, Verdict, WORKSPACE_NUMBERS,
 };
 
 /// The bytes of a sheet; call numbers are 17, 18 and so on.
@@ -41,35 +44,36 @@ fn p1_like_with_room(points: &[(u16, u16)]) -> Sheet {
 /// All valid choices of the best count; none if no choice is valid. Both ways of finding the
 /// preferred one have to agree with them.
 fn best_choices(sheet: &Sheet) -> Vec<Choice> {
-    let n = sheet.points().len();
-    let best = (0..=n)
-        .rev()
-        .map(|count| valid_choices(sheet, count))
-        .find(|found| !found.is_empty())
-        .unwrap_or_default();
+    let best = best_choices_ranked(sheet, &Ranks::ones(sheet));
+    let count = best.first().map_or(0, |choice| choice.0.count_ones());
+    assert!(best.iter().all(|choice| choice.0.count_ones() == count));
+    assert_eq!(best_count(sheet), count as usize);
+    assert_eq!(best_choice(sheet).is_some(), !best.is_empty());
+    best
+}
+
+/// All valid choices with the greatest sum of ranks inside, those first that have the first point
+/// inside, and so on; none if no choice is valid. Both ways of finding the preferred one have to agree
+/// with them.
+fn best_choices_ranked(sheet: &Sheet, ranks: &Ranks) -> Vec<Choice> {
+    let mut choices: Vec<Choice> = (0..1 << sheet.points().len()).map(Choice).collect();
+    choices.sort_by_key(|&choice| Reverse((ranks.sum(choice), choice.0.reverse_bits())));
+    let is_valid = |choice: &Choice| valid(sheet, *choice);
+    let greatest = choices.iter().find(|choice| is_valid(choice));
+    let greatest = greatest.map(|&choice| ranks.sum(choice));
+    choices.retain(|&choice| Some(ranks.sum(choice)) == greatest);
+    choices.retain(is_valid);
+    let best = choices;
     let preferred = best.iter().copied().find(|&one| {
         let mut others = best.iter().filter(|&&other| other != one);
         others.all(|&other| is_preferred(sheet, one, other))
     });
     assert_eq!(preferred.is_some(), !best.is_empty());
-    assert_eq!(best_choice(sheet), preferred);
-    assert_eq!(try_all(sheet), preferred);
-    assert_eq!(search_best(sheet), preferred);
-    let count = preferred.map_or(0, |choice| choice.0.count_ones() as usize);
-    assert_eq!(best_count(sheet), count);
-    assert_eq!(several_best(sheet), best.len() > 1);
+    assert_eq!(best_ranked(sheet, ranks), preferred);
+    assert_eq!(try_all(sheet, ranks), preferred);
+    assert_eq!(search_best(sheet, ranks), preferred);
+    assert_eq!(several_best(sheet, ranks), best.len() > 1);
     best
-}
-
-/// All valid choices of this inside count.
-fn valid_choices(sheet: &Sheet, count: usize) -> Vec<Choice> {
-    let mut found = Vec::new();
-    each_choice(sheet.points().len(), count, &mut |choice| {
-        if valid(sheet, choice) {
-            found.push(choice);
-        }
-    });
-    found
 }
 
 /// The preferred best choice of a sheet that has a valid one.
@@ -506,7 +510,7 @@ fn stair() -> Vec<(u16, u16)> {
 fn preferred_of_32(points: &[(u16, u16)]) -> Choice {
     let sheet = Sheet::read(&bytes_on((80, 80), (4, 2), points)).unwrap();
     assert_eq!(best_count(&sheet), 16);
-    assert!(several_best(&sheet));
+    assert!(several_best(&sheet, &Ranks::ones(&sheet)));
     the_best(&sheet)
 }
 
@@ -559,7 +563,7 @@ fn the_desk_on_p1() {
         Ok(Marked {
             number: 1,
             verdict: Verdict::Valid {
-                count: 2,
+                sum: 2,
                 shortfall: 0
             }
         })
@@ -580,7 +584,7 @@ fn the_desk_on_p1() {
         Ok(Marked {
             number: 3,
             verdict: Verdict::Valid {
-                count: 0,
+                sum: 0,
                 shortfall: 2
             }
         })
@@ -669,7 +673,7 @@ fn the_desk_on_an_overhanging_point() {
         Ok(Marked {
             number: 2,
             verdict: Verdict::Valid {
-                count: 0,
+                sum: 0,
                 shortfall: 0
             }
         })
@@ -1042,7 +1046,7 @@ fn the_desk_on_a_shared_row() {
         second: 1,
         kind,
     };
-    let valid = |count, shortfall| Verdict::Valid { count, shortfall };
+    let valid = |sum, shortfall| Verdict::Valid { sum, shortfall };
     let mut marked = |number, list: &[u8], verdict| {
         assert_eq!(desk.mark(list), Ok(Marked { number, verdict }));
     };
@@ -1131,4 +1135,281 @@ fn a_listing_with_two_outside_in_one_row() {
         listing(&sheet, Choice::of(&[2])),
         "plate 3 1 2\n17 out 1\n18 out 0\n19 in\n"
     );
+}
+
+/// A sheet with a rank list lent: the best choices are these, the preferred one first, the making adds
+/// these bytes to the sheet's, and a load shows this best sum.
+fn ranked(bytes: &[u8], list: &[u8], best: &[&[u8]], added: &[u8], sum: u16) {
+    let sheet = Sheet::read(bytes).unwrap();
+    let ranks = Ranks::read(&sheet, list).unwrap();
+    assert_eq!(ranks.by_position(), &list[1..]);
+    let best: Vec<Choice> = best.iter().map(|inside| Choice::of(inside)).collect();
+    assert_eq!(best_choices_ranked(&sheet, &ranks), best);
+    assert!(best.iter().all(|&choice| ranks.sum(choice) == sum));
+    let plate = [bytes, added].concat();
+    let n = sheet.points().len();
+    let made = make_ranked(bytes, Some(list), 12 + 8 * n, WORKSPACE_NUMBERS);
+    assert_eq!(made, Ok(plate));
+    let mut desk = Desk::fresh();
+    assert_eq!(desk.load_ranked(bytes, Some(list), WORKSPACE_NUMBERS), 0);
+    assert_eq!(desk.loaded(), Some((n, sum)));
+    let (held, ranks) = desk.sheet_and_ranks().unwrap();
+    assert_eq!(held, &sheet);
+    assert_eq!(ranks.by_position(), &list[1..]);
+}
+
+/// A fresh desk with this sheet and rank list marks these lists, one after the other.
+fn marked_under(bytes: &[u8], list: &[u8], lists: &[(&[u8], Verdict)]) {
+    let mut desk = Desk::fresh();
+    assert_eq!(desk.load_ranked(bytes, Some(list), WORKSPACE_NUMBERS), 0);
+    for (number, &(list, verdict)) in (1..).zip(lists) {
+        assert_eq!(desk.mark(list), Ok(Marked { number, verdict }));
+    }
+}
+
+/// A valid list's verdict.
+fn valid_with(sum: u16, shortfall: u16) -> Verdict {
+    Verdict::Valid { sum, shortfall }
+}
+
+#[test]
+fn the_two_point_tie_with_ranks() {
+    let bytes = bytes_of((4, 2), &[(4, 3), (3, 4)]);
+    // The second has rank 2 and is inside. The first is outside, in column 0.
+    ranked(&bytes, &[2, 1, 2], &[&[1]], &[1, 1, 1, 0, 0], 2);
+    let clash = Verdict::Clash {
+        first: 0,
+        second: 1,
+        kind: ClashKind::Labels,
+    };
+    let lists: [(&[u8], Verdict); 4] = [
+        (&[1, 0], valid_with(1, 1)),
+        (&[1, 1], valid_with(2, 0)),
+        (&[2, 0, 1], clash),
+        (&[0], valid_with(0, 2)),
+    ];
+    marked_under(&bytes, &[2, 1, 2], &lists);
+    // The first has the greater rank, or both have the same: the first is inside.
+    ranked(&bytes, &[2, 2, 1], &[&[0]], &[1, 0, 1, 1, 0], 2);
+    ranked(&bytes, &[2, 1, 1], &[&[0], &[1]], &[1, 0, 1, 1, 0], 1);
+    ranked(&bytes, &[2, 9, 9], &[&[0], &[1]], &[1, 0, 1, 1, 0], 9);
+    ranked(&bytes, &[2, 8, 9], &[&[1]], &[1, 1, 1, 0, 0], 9);
+}
+
+/// A stair of three with label 4 by 2: the labels of the middle one and of each other one meet, and
+/// nothing else does. So the middle one can be inside alone, or the two others.
+const LOW: (u16, u16) = (12, 1);
+const MIDDLE: (u16, u16) = (10, 2);
+const HIGH: (u16, u16) = (8, 3);
+
+#[test]
+fn one_of_rank_9_beats_two_of_rank_1() {
+    let bytes = bytes_of((4, 2), &[LOW, MIDDLE, HIGH]);
+    assert_eq!(
+        best_choices(&Sheet::read(&bytes).unwrap()),
+        [Choice::of(&[0, 2])]
+    );
+    // Outside are the high one and the low one, in rows 3 and 1, which is 2 below.
+    let middle = [1, 1, 2, 2, 0, 0, 1];
+    ranked(&bytes, &[3, 1, 9, 1], &[&[1]], &middle, 9);
+    ranked(&bytes, &[3, 1, 3, 1], &[&[1]], &middle, 3);
+    let lists: [(&[u8], Verdict); 5] = [
+        (&[2, 0, 2], valid_with(2, 7)),
+        (&[1, 1], valid_with(9, 0)),
+        (&[1, 2], valid_with(1, 8)),
+        (&[0], valid_with(0, 9)),
+        (
+            &[2, 1, 2],
+            Verdict::Clash {
+                first: 1,
+                second: 2,
+                kind: ClashKind::Labels,
+            },
+        ),
+    ];
+    marked_under(&bytes, &[3, 1, 9, 1], &lists);
+    // Two of rank 5 have 10.
+    let both = [2, 0, 2, 1, 1, 0];
+    ranked(&bytes, &[3, 5, 9, 5], &[&[0, 2]], &both, 10);
+    ranked(&bytes, &[3, 9, 9, 1], &[&[0, 2]], &both, 10);
+}
+
+#[test]
+fn of_equal_sums_the_preferred_one_is_taken() {
+    // The low one is the first of the sheet: the two others of rank 1 and 1, against rank 2.
+    let both = [2, 0, 2, 1, 1, 0];
+    let bytes = bytes_of((4, 2), &[LOW, MIDDLE, HIGH]);
+    ranked(&bytes, &[3, 1, 2, 1], &[&[0, 2], &[1]], &both, 2);
+    ranked(&bytes, &[3, 4, 9, 5], &[&[0, 2], &[1]], &both, 9);
+    // The middle one is the first: it alone is taken, though two others have the same sum.
+    let middle = [1, 0, 2, 2, 0, 1, 1];
+    let bytes = bytes_of((4, 2), &[MIDDLE, LOW, HIGH]);
+    ranked(&bytes, &[3, 2, 1, 1], &[&[0], &[1, 2]], &middle, 2);
+    ranked(&bytes, &[3, 9, 5, 4], &[&[0], &[1, 2]], &middle, 9);
+    // The greater sum comes first, whatever is preferred.
+    let both = [2, 1, 2, 1, 0, 0];
+    ranked(&bytes, &[3, 8, 5, 4], &[&[1, 2]], &both, 9);
+}
+
+#[test]
+fn four_best_choices_with_ranks() {
+    // As in `four_best_choices`: B, E, A, C, F and D of a stair A to F. Without ranks the best are
+    // ACE, ACF, ADF and BDF.
+    let points = [(10, 2), (4, 5), (12, 1), (8, 3), (2, 6), (6, 4)];
+    let bytes = bytes_of((4, 2), &points);
+    // With rank 2 for E only ACE is left. Outside are F, D and B in rows 6, 4 and 2.
+    let list = [6, 1, 2, 1, 1, 1, 1];
+    let added = [3, 1, 2, 3, 3, 4, 0, 5, 1, 0, 2];
+    ranked(&bytes, &list, &[&[1, 2, 3]], &added, 4);
+    // With rank 2 for B and E: BE has 4, and so have ACE and BDF. B is the first point, and of BE and
+    // BDF the first difference is at E. Outside are F, D, C and A in rows 6, 4, 3 and 1.
+    let list = [6, 2, 2, 1, 1, 1, 1];
+    let best: [&[u8]; 3] = [&[0, 1], &[0, 4, 5], &[1, 2, 3]];
+    let added = [2, 0, 1, 4, 4, 0, 5, 1, 3, 2, 2, 3];
+    ranked(&bytes, &list, &best, &added, 4);
+}
+
+#[test]
+fn ranks_of_points_that_can_only_be_outside() {
+    // The first's label leaves the map, and its leader in row 4 runs through the second's label.
+    let bytes = bytes_of((4, 2), &[(18, 4), (10, 3), (2, 8)]);
+    let added = [1, 2, 2, 0, 0, 1, 1];
+    ranked(&bytes, &[3, 9, 9, 1], &[&[2]], &added, 1);
+    let overhang = Verdict::Clash {
+        first: 0,
+        second: 0,
+        kind: ClashKind::Overhang,
+    };
+    let lists: [(&[u8], Verdict); 2] = [(&[1, 0], overhang), (&[0], valid_with(0, 1))];
+    marked_under(&bytes, &[3, 9, 9, 1], &lists);
+}
+
+#[test]
+fn ranks_on_a_shared_row() {
+    // The labels meet, and the left one can't be inside beside the right one's leader. So the right
+    // one is inside, whatever the ranks.
+    let bytes = bytes_of((4, 2), &[(2, 3), (5, 3)]);
+    ranked(&bytes, &[2, 9, 1], &[&[1]], &[1, 1, 1, 0, 0], 1);
+    ranked(&bytes, &[2, 1, 9], &[&[1]], &[1, 1, 1, 0, 0], 9);
+}
+
+#[test]
+fn ranks_of_no_points() {
+    let bytes = bytes_of((4, 2), &[]);
+    ranked(&bytes, &[0], &[&[]], &[0, 0], 0);
+    marked_under(&bytes, &[0], &[(&[0], valid_with(0, 0))]);
+}
+
+#[test]
+fn p1_with_ranks() {
+    // The first can't be inside: its label meets the second's label and the second's leader.
+    let added = [2, 1, 2, 1, 0, 0];
+    ranked(&P1, &[3, 9, 1, 1], &[&[1, 2]], &added, 2);
+    ranked(&P1, &[3, 9, 8, 7], &[&[1, 2]], &added, 15);
+    let lists: [(&[u8], Verdict); 3] = [
+        (&[2, 1, 2], valid_with(15, 0)),
+        (&[1, 1], valid_with(8, 7)),
+        (&[1, 2], valid_with(7, 8)),
+    ];
+    marked_under(&P1, &[3, 9, 8, 7], &lists);
+}
+
+#[test]
+fn a_list_of_ones_is_as_none() {
+    for points in [&[(4, 3), (3, 4)][..], &[LOW, MIDDLE, HIGH], &[P, Q, R, S]] {
+        let bytes = bytes_of((4, 2), points);
+        let list = [&[points.len() as u8][..], &vec![1; points.len()]].concat();
+        let output = 12 + 8 * points.len();
+        assert_eq!(
+            make_ranked(&bytes, Some(&list), output, WORKSPACE_NUMBERS),
+            make(&bytes, output, WORKSPACE_NUMBERS)
+        );
+        let [mut with, mut without] = [Desk::fresh(), Desk::fresh()];
+        assert_eq!(with.load_ranked(&bytes, Some(&list), WORKSPACE_NUMBERS), 0);
+        assert_eq!(without.load(&bytes, WORKSPACE_NUMBERS), 0);
+        assert_eq!(with, without);
+    }
+}
+
+#[test]
+fn the_greatest_sum() {
+    // Labels of one pixel, so all 32 points are inside. Each has rank 9.
+    let points: Vec<_> = (0..32).map(|row| (3, row)).collect();
+    let bytes = bytes_on((20, 32), (1, 1), &points);
+    let sheet = Sheet::read(&bytes).unwrap();
+    let list = [&[32][..], &[9; 32]].concat();
+    let ranks = Ranks::read(&sheet, &list).unwrap();
+    assert_eq!(best_ranked(&sheet, &ranks), Some(Choice(u32::MAX)));
+    assert_eq!(ranks.sum(Choice(u32::MAX)), 288);
+    let all: Vec<u8> = [32].into_iter().chain(0..32).collect();
+    let all_but_the_last: Vec<u8> = [31].into_iter().chain(0..31).collect();
+    let lists: [(&[u8], Verdict); 4] = [
+        (&all, valid_with(288, 0)),
+        (&[0], valid_with(0, 288)),
+        (&all_but_the_last, valid_with(279, 9)),
+        (&[1, 31], valid_with(9, 279)),
+    ];
+    marked_under(&bytes, &list, &lists);
+    let mut desk = Desk::fresh();
+    assert_eq!(desk.load_ranked(&bytes, Some(&list), WORKSPACE_NUMBERS), 0);
+    assert_eq!(desk.loaded(), Some((32, 288)));
+}
+
+/// The best choice of 32 points with label 4 by 2 on a large map, with these ranks, and its sum.
+fn ranked_best_of_32(points: &[(u16, u16)], ranks: [u8; 32]) -> (Choice, u16) {
+    let sheet = Sheet::read(&bytes_on((80, 80), (4, 2), points)).unwrap();
+    let ranks = Ranks::read(&sheet, &[&[32][..], &ranks].concat()).unwrap();
+    let best = best_ranked(&sheet, &ranks).unwrap();
+    (best, ranks.sum(best))
+}
+
+#[test]
+fn the_best_choice_of_a_stair_of_32_with_ranks() {
+    // Of each two neighbours 2k and 2k + 1 one can be inside. Rank 2 for each second one: 16 times 2.
+    let ranks = std::array::from_fn(|position| 1 + (position % 2) as u8);
+    let best = ranked_best_of_32(&stair(), ranks);
+    assert_eq!(best, (Choice(0xaaaa_aaaa), 32));
+    // Rank 9 for 5 alone. It puts 4 and 6 outside; of the four before them two can be inside, 0 and 2
+    // being preferred, and of the 25 after them 13: 7, 9 and so on to 31.
+    let mut ranks = [1; 32];
+    ranks[5] = 9;
+    let best = ranked_best_of_32(&stair(), ranks);
+    assert_eq!(best, (Choice(0xaaaa_aaa5), 24));
+    // Rank 2 for 5: of 5 and its neighbours, 5 inside loses nothing in the count of 16 and adds 1.
+    ranks[5] = 2;
+    let best = ranked_best_of_32(&stair(), ranks);
+    assert_eq!(best, (Choice(0xaaaa_aaa5), 17));
+    // The same rank for all: as without ranks.
+    let best = ranked_best_of_32(&stair(), [9; 32]);
+    assert_eq!(best, (Choice(0x5555_5555), 144));
+}
+
+#[test]
+fn a_load_replaces_the_ranks() {
+    // The desk keeps the ranks of its last accepted load, and ones if that had no list.
+    let bytes = bytes_of((4, 2), &[LOW, MIDDLE, HIGH]);
+    let mut desk = Desk::fresh();
+    let shows = |desk: &Desk, best: u16, ranks: [u8; 3]| {
+        assert_eq!(desk.loaded(), Some((3, best)));
+        let (_, held) = desk.sheet_and_ranks().unwrap();
+        assert_eq!(held.by_position(), ranks);
+    };
+    assert_eq!(desk.sheet_and_ranks(), None);
+    let load = |desk: &mut Desk, list| desk.load_ranked(&bytes, list, WORKSPACE_NUMBERS);
+    assert_eq!(load(&mut desk, Some(&[3, 1, 9, 1][..])), 0);
+    shows(&desk, 9, [1, 9, 1]);
+    let middle = desk.mark(&[1, 1]).unwrap();
+    assert_eq!((middle.number, middle.verdict), (1, valid_with(9, 0)));
+    assert_eq!(load(&mut desk, Some(&[3, 4, 9, 7])), 0);
+    shows(&desk, 11, [4, 9, 7]);
+    let middle = desk.mark(&[1, 1]).unwrap();
+    assert_eq!((middle.number, middle.verdict), (2, valid_with(9, 2)));
+    // Refused ones.
+    assert_eq!(load(&mut desk, Some(&[3, 1, 1])), 62);
+    assert_eq!(load(&mut desk, Some(&[3, 1, 1, 0])), 63);
+    shows(&desk, 11, [4, 9, 7]);
+    assert_eq!(load(&mut desk, None), 0);
+    shows(&desk, 2, [1, 1, 1]);
+    let middle = desk.mark(&[1, 1]).unwrap();
+    assert_eq!((middle.number, middle.verdict), (3, valid_with(1, 1)));
 }
