@@ -1,8 +1,8 @@
-//! Damage to sheets, plates and lists, aimed at the number of a question. Damage may miss (there is
+//! Damage to sheets, plates, lists and rank lists, aimed at the number of a question. Damage may miss (there is
 //! no call number to spoil on a sheet without points) or hit an earlier question: what the right
 //! answer is the reference says. Damage on damage is what asks for the order of the questions.
 
-use reference::random::Random;
+use reference::random::{random_ranks, Random};
 
 /// Lengths that are too long by just what a careless cast forgets.
 const FORGOTTEN: [usize; 2] = [256, 65_536];
@@ -373,4 +373,49 @@ pub fn aim_at_list(random: &mut Random, list: &mut Vec<u8>, n: u8, number: u8) {
             }
         }
     }
+}
+
+/// Damages a rank list so that the question of this number (62 or 63) is answered no.
+pub fn aim_at_ranks(random: &mut Random, list: &mut Vec<u8>, number: u8) {
+    match number {
+        62 => damage_rank_count(random, list),
+        _ => damage_a_rank(random, list),
+    }
+}
+
+/// A count byte that is missing or another, ranks too few or too many.
+fn damage_rank_count(random: &mut Random, list: &mut Vec<u8>) {
+    let another = random.below(256) as u8;
+    match random.below(10) {
+        0 => list.clear(),
+        1 => list.truncate(list.len().saturating_sub(1)),
+        2 => list.push(random.between(1, 9) as u8),
+        3 => list[0] = list[0].wrapping_add(1),
+        4 => list[0] = list[0].wrapping_sub(1),
+        5 => {
+            list[0] = another;
+            if once_in(random, 2) {
+                lengthen(random, list);
+            }
+        }
+        6 => shorten(random, list, 0),
+        7 => lengthen(random, list),
+        // A right list for another count of points.
+        8 => *list = random_ranks(random, another % 33),
+        _ => {
+            let more = list[0].wrapping_add(1);
+            *list = random_ranks(random, more);
+        }
+    }
+}
+
+/// A rank outside 1 to 9: the first, the last or any. A list without ranks stays.
+fn damage_a_rank(random: &mut Random, list: &mut [u8]) {
+    let Some(last) = list.len().checked_sub(1).filter(|&last| last > 0) else {
+        return;
+    };
+    let any = random.between(1, last.min(300) as u16);
+    let place = one_of(random, &[1, last.min(300) as u16, any]);
+    let other = random.between(10, 255);
+    list[usize::from(place)] = one_of(random, &[0, 10, 255, other]) as u8;
 }

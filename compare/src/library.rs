@@ -8,9 +8,18 @@ pub fn check_sheet(sheet: &[u8]) -> Result<(), u8> {
     plates::check_sheet(sheet).map_err(number)
 }
 
-/// A making; gives the written length.
-pub fn make(sheet: &[u8], output: &mut [u8], workspace: &mut [u16]) -> Result<usize, u8> {
-    plates::make(sheet, output, workspace).map_err(number)
+/// A making, with this rank list if there is one; gives the written length.
+pub fn make(
+    sheet: &[u8],
+    ranks: Option<&[u8]>,
+    output: &mut [u8],
+    workspace: &mut [u16],
+) -> Result<usize, u8> {
+    let made = match ranks {
+        Some(ranks) => plates::make_ranked(sheet, ranks, output, workspace),
+        None => plates::make(sheet, output, workspace),
+    };
+    made.map_err(number)
 }
 
 /// The reading of a plate; gives the inside list.
@@ -24,6 +33,12 @@ pub fn exported_read(plate: &[u8]) -> (u32, u64, u64) {
     let read = exported::read(plate);
     assert_eq!(read.spare, 0, "the spare field of a reading");
     (read.number, read.inside_start, read.inside_count)
+}
+
+/// What a fresh desk is after a load, field by field, as the exported call hands it back. The wrapper
+/// doesn't show what stands past the sheet and past its ranks.
+pub fn exported_load(sheet: &[u8], ranks: Option<&[u8]>, workspace: &mut [u16]) -> ExportedDesk {
+    exported::load(sheet, ranks, workspace).desk
 }
 
 /// The listing of a plate; gives the text's length, if the buffer is long enough.
@@ -45,13 +60,36 @@ impl Desk {
         Desk(self.0.fork())
     }
 
-    /// The best count of the loaded sheet.
-    pub fn best(&self) -> Option<usize> {
-        self.0.best().map(usize::from)
+    /// The loaded sheet.
+    pub fn sheet(&self) -> Option<&[u8]> {
+        self.0.sheet()
     }
 
-    pub fn load(self, sheet: &[u8], workspace: &mut [u16]) -> (Desk, Result<(), u8>) {
-        let (desk, answer) = self.0.load(sheet, workspace);
+    /// The ranks of the loaded sheet's points.
+    pub fn ranks(&self) -> Option<&[u8]> {
+        self.0.ranks()
+    }
+
+    /// The best sum of the loaded sheet.
+    pub fn best(&self) -> Option<u16> {
+        self.0.best()
+    }
+
+    pub fn last_number(&self) -> u16 {
+        self.0.last_number()
+    }
+
+    /// A load, with this rank list if there is one.
+    pub fn load(
+        self,
+        sheet: &[u8],
+        ranks: Option<&[u8]>,
+        workspace: &mut [u16],
+    ) -> (Desk, Result<(), u8>) {
+        let (desk, answer) = match ranks {
+            Some(ranks) => self.0.load_ranked(sheet, ranks, workspace),
+            None => self.0.load(sheet, workspace),
+        };
         (Desk(desk), answer.map_err(number))
     }
 
@@ -68,10 +106,7 @@ fn number(refusal: plates::Refusal) -> u8 {
 
 fn marked(marked: plates::Marked) -> Marked {
     let verdict = match marked.verdict {
-        plates::Verdict::Valid { count, shortfall } => Verdict::Valid {
-            count: count.into(),
-            shortfall: shortfall.into(),
-        },
+        plates::Verdict::Valid { sum, shortfall } => Verdict::Valid { sum, shortfall },
         plates::Verdict::Clash {
             first,
             second,
@@ -93,7 +128,9 @@ fn marked(marked: plates::Marked) -> Marked {
     }
 }
 
-/// The exported call itself, as in bindings/c/plates.h.
+pub use exported::{Desk as ExportedDesk, Held};
+
+/// The exported calls themselves, as in bindings/c/plates.h.
 #[allow(unsafe_code)]
 mod exported {
     use std::mem::offset_of;
@@ -109,12 +146,74 @@ mod exported {
     const _: () = assert!(size_of::<ReadResult>() == 24);
     const _: () = assert!(offset_of!(ReadResult, inside_start) == 8);
 
+    #[repr(C)]
+    #[derive(Debug, PartialEq, Eq)]
+    pub struct Held {
+        pub sheet: [u8; 202],
+        pub ranks: [u8; 32],
+        /// A bool in C.
+        pub loaded: u8,
+        pub spare: u8,
+        pub best: u16,
+    }
+
+    #[repr(C)]
+    #[derive(Debug, PartialEq, Eq)]
+    pub struct Desk {
+        pub held: Held,
+        pub last: u16,
+    }
+
+    #[repr(C)]
+    pub struct LoadResult {
+        pub desk: Desk,
+        pub number: u32,
+    }
+
+    const _: () = assert!(size_of::<Desk>() == 202 + 32 + 1 + 1 + 2 + 2);
+    const _: () = assert!(offset_of!(LoadResult, number) == size_of::<Desk>());
+
     extern "C" {
         fn plate_read(plate: *const u8, plate_len: usize) -> ReadResult;
+        fn desk_new() -> Desk;
+        fn desk_load(
+            desk: Desk,
+            sheet: *const u8,
+            sheet_len: usize,
+            workspace: *mut u16,
+            workspace_len: usize,
+        ) -> LoadResult;
+        fn desk_load_ranked(
+            desk: Desk,
+            sheet: *const u8,
+            sheet_len: usize,
+            ranks: *const u8,
+            ranks_len: usize,
+            workspace: *mut u16,
+            workspace_len: usize,
+        ) -> LoadResult;
     }
 
     pub fn read(plate: &[u8]) -> ReadResult {
         // The pointer and the length are those of one slice, and the call only reads there.
         unsafe { plate_read(plate.as_ptr(), plate.len()) }
+    }
+
+    /// A load onto a fresh desk, with this rank list if there is one.
+    pub fn load(sheet: &[u8], ranks: Option<&[u8]>, workspace: &mut [u16]) -> LoadResult {
+        let (place, length) = (workspace.as_mut_ptr(), workspace.len());
+        // Each pointer and length are those of one slice, and the call only writes to the workspace,
+        // which overlaps no other.
+        unsafe {
+            let desk = desk_new();
+            let (bytes, count) = (sheet.as_ptr(), sheet.len());
+            match ranks {
+                None => desk_load(desk, bytes, count, place, length),
+                Some(ranks) => {
+                    let (ranks, ranks_len) = (ranks.as_ptr(), ranks.len());
+                    desk_load_ranked(desk, bytes, count, ranks, ranks_len, place, length)
+                }
+            }
+        }
     }
 }

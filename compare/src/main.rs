@@ -1,6 +1,6 @@
 //! Compares the proved library with the reference, call by call, and what the programs print_plate and
 //! desk_session print with the reference's texts: document 01's worked examples that aren't marked
-//! (P), examples of document 02 (a) to (d), and thousands of made-up cases, from a fixed seed and,
+//! (P), examples of document 02 (a) to (e), and thousands of made-up cases, from a fixed seed and,
 //! beside them, from a fresh one. A difference ends its seed's cases, and is shown with the bytes in
 //! hand, the seeds, and exit status 1.
 
@@ -13,12 +13,13 @@ mod lent;
 mod library;
 mod parts;
 mod programs;
+mod ranks;
 mod report;
 mod scripts;
 mod sheets;
 mod side_by_side;
 
-use cases::{sheet_kept, CASES};
+use cases::{greatest_sum, sheet_kept, wrong_lists, CASES};
 use parts::{Part, PARTS};
 use reference::random::Random;
 use report::Report;
@@ -100,14 +101,26 @@ fn run_all(seed: u64, long: bool) -> Result<(), String> {
     Ok(())
 }
 
+/// A case that runs calls of its own.
+type RunCase = fn(&mut Report) -> Compared;
+
+/// The documents' cases with calls of their own.
+const OTHER_CASES: [(&str, RunCase); 3] = [
+    ("a load with 61 keeps the sheet", sheet_kept),
+    ("wrong rank lists", wrong_lists),
+    ("the greatest sum", greatest_sum),
+];
+
 fn run_document(report: &mut Report) -> Compared {
     for case in &CASES {
         run_case(report, |report| case.run(report))
             .map_err(|message| failure(report, &message, case.name))?;
     }
-    run_case(report, sheet_kept)
-        .map_err(|message| failure(report, &message, "a load with 61 keeps the sheet"))?;
-    println!("{:<22}{:>9} cases", "documents 01 and 02", CASES.len() + 1);
+    for (name, run) in OTHER_CASES {
+        run_case(report, run).map_err(|message| failure(report, &message, name))?;
+    }
+    let cases = CASES.len() + OTHER_CASES.len();
+    println!("{:<22}{cases:>9} cases", "documents 01 and 02");
     Ok(())
 }
 

@@ -4,15 +4,16 @@
 use crate::damage::{aim_at_sheet, damage_list, damage_plate, damage_sheet};
 use crate::damage::{lengthen_much, once_in, reverse_a_row, stack_without_gap, wrap_counts};
 use crate::lent::Content;
+use crate::ranks::any_ranks;
 use crate::report::{Report, LEADERS_READ, NEVER_A_PLATE, ROW_REVERSED, STACKED, WRAPPED};
-use crate::report::{TIES_SEARCHED, TIES_TRIED};
+use crate::report::{RANKED_TIES_SEARCHED, RANKED_TIES_TRIED, TIES_SEARCHED, TIES_TRIED};
 use crate::scripts::{script, script_to_52};
 use crate::sheets::{crowded_sheet, sheet, sheet_of, small_sheet};
 use crate::side_by_side::{check, listing_of_no_plate, making, printing, reading, same, session};
-use crate::side_by_side::{Buffers, Compared, Desks};
+use crate::side_by_side::{whole_desk, Buffers, Compared, Desks};
 use reference::random::Random;
 use reference::search::TRY_ALL_POINTS;
-use reference::{best_choice, several_best, Choice, Sheet};
+use reference::{best_choice, best_ranked, several_best, Choice, Ranks, Sheet};
 
 pub struct Part {
     pub name: &'static str,
@@ -59,7 +60,7 @@ pub const PARTS: [Part; 9] = [
     },
     Part {
         name: "desk-session",
-        cases: 500,
+        cases: 1_000,
         run: session_script,
     },
     Part {
@@ -81,7 +82,8 @@ const CASES_OF_A_SEED: u64 = {
 
 const _: () = assert!(2 * CASES_OF_A_SEED >= 300_000);
 
-/// A sheet that keeps the rules: checked and made, and the plate read.
+/// A sheet that keeps the rules: checked and made, with a rank list or without, and the plate read; at
+/// times loaded too.
 fn sheets(random: &mut Random, report: &mut Report) -> Compared {
     let bytes = match random.below(3) {
         0 => crowded_sheet(random),
@@ -91,14 +93,19 @@ fn sheets(random: &mut Random, report: &mut Report) -> Compared {
     note_features(report, &sheet);
     check(report, &bytes)?;
     let buffers = any_buffers(random, &bytes);
-    if let Some(plate) = making(report, &bytes, buffers)? {
+    let ranks = any_ranks(random, &bytes);
+    if let Some(plate) = making(report, &bytes, ranks.as_deref(), buffers)? {
         let enough = Buffers::just_enough(sheet.points().len(), buffers.content);
         if buffers.output > enough.output && buffers.workspace > enough.workspace {
             report.feature("makings with longer buffers");
         }
-        note_tie(report, &sheet);
+        note_tie(report, &sheet, ranks.as_deref());
         let number = reading(report, &plate)?;
         same("the reading of a made plate, and yes", number, 0)?;
+    }
+    if once_in(random, 8) {
+        Desks::fresh().load(report, &bytes, ranks.as_deref(), buffers)?;
+        whole_desk(report, &bytes, ranks.as_deref(), buffers)?;
     }
     // Nothing inside: valid exactly if no two leaders are in one row.
     let wanted = match shares_rows(&sheet) {
@@ -113,12 +120,17 @@ fn sheets(random: &mut Random, report: &mut Report) -> Compared {
     Ok(())
 }
 
-/// Notes whether the plate made of this sheet is that of one of several best choices.
-fn note_tie(report: &mut Report, sheet: &Sheet) {
-    if several_best(sheet) {
-        report.feature(match sheet.points().len() <= TRY_ALL_POINTS {
-            true => TIES_TRIED,
-            false => TIES_SEARCHED,
+/// Notes whether the plate made of this sheet, with this rank list if there is one, is that of one of
+/// several best choices.
+fn note_tie(report: &mut Report, sheet: &Sheet, list: Option<&[u8]>) {
+    let ranks = Ranks::of(sheet, list).expect("a plate was made with this list");
+    if several_best(sheet, &ranks) {
+        let tried = sheet.points().len() <= TRY_ALL_POINTS;
+        report.feature(match (list, tried) {
+            (None, true) => TIES_TRIED,
+            (None, false) => TIES_SEARCHED,
+            (Some(_), true) => RANKED_TIES_TRIED,
+            (Some(_), false) => RANKED_TIES_SEARCHED,
         });
     }
 }
@@ -193,7 +205,8 @@ fn any_buffers(random: &mut Random, sheet: &[u8]) -> Buffers {
     }
 }
 
-/// A damaged sheet: checked, made, loaded; and listed, though it is no plate.
+/// A damaged sheet: checked, made and loaded, with a rank list or without; and listed, though it is no
+/// plate.
 fn damaged_sheets(random: &mut Random, report: &mut Report) -> Compared {
     let mut bytes = match random.below(4) {
         0 => small_sheet(random),
@@ -210,9 +223,12 @@ fn damaged_sheets(random: &mut Random, report: &mut Report) -> Compared {
     damage_sheet(random, &mut bytes);
     check(report, &bytes)?;
     let buffers = any_buffers(random, &bytes);
-    making(report, &bytes, buffers)?;
+    let ranks = any_ranks(random, &bytes);
+    let ranks = ranks.as_deref();
+    making(report, &bytes, ranks, buffers)?;
     listing_of_no_plate(report, &bytes)?;
-    Desks::fresh().load(report, &bytes, buffers).map(|_| ())
+    let number = Desks::fresh().load(report, &bytes, ranks, buffers);
+    number.map(|_| ())
 }
 
 /// Random bytes, fewer than `limit`.
@@ -224,16 +240,17 @@ fn random_bytes(random: &mut Random, limit: u16) -> Vec<u8> {
 /// A plate in which all but the choice is right.
 pub fn any_plate(random: &mut Random) -> Vec<u8> {
     let sheet = made_up_sheet(&sheet(random));
-    reference::plate_bytes(&sheet, any_choice(random, &sheet))
+    let ones = Ranks::ones(&sheet);
+    reference::plate_bytes(&sheet, any_choice(random, &sheet, &ones))
 }
 
-/// Any choice: best, nearly best, nothing, everything, crowded or thin.
-fn any_choice(random: &mut Random, sheet: &Sheet) -> Choice {
+/// Any choice: best under these ranks, nearly best, nothing, everything, crowded or thin.
+fn any_choice(random: &mut Random, sheet: &Sheet, ranks: &Ranks) -> Choice {
     let n = sheet.points().len();
     let all = ((1u64 << n) - 1) as u32;
     let some = random.next_number() as u32 & all;
     let one = 1 << random.below(n.max(1) as u16);
-    let best = || best_choice(sheet).unwrap_or_default().0;
+    let best = || best_ranked(sheet, ranks).unwrap_or_default().0;
     Choice(match random.below(10) {
         0 => 0,
         1 => all,
@@ -304,10 +321,10 @@ fn damaged_plates(random: &mut Random, report: &mut Report) -> Compared {
     reading(report, &plate).map(|_| ())
 }
 
-/// A list for a sheet (if there is one), damaged at times.
-pub fn any_list(random: &mut Random, sheet: Option<&Sheet>) -> Vec<u8> {
-    let (n, choice) = match sheet {
-        Some(sheet) => (sheet.points().len(), any_choice(random, sheet)),
+/// A list for a sheet and its points' ranks (if there is one), damaged at times.
+pub fn any_list(random: &mut Random, loaded: Option<(&Sheet, &Ranks)>) -> Vec<u8> {
+    let (n, choice) = match loaded {
+        Some((sheet, ranks)) => (sheet.points().len(), any_choice(random, sheet, ranks)),
         None => (8, Choice(random.next_number() as u32 & 0xff)),
     };
     let mut list = vec![choice.0.count_ones() as u8];
@@ -318,39 +335,31 @@ pub fn any_list(random: &mut Random, sheet: Option<&Sheet>) -> Vec<u8> {
     list
 }
 
-/// Two desks and the sheet that is loaded, for making up lists.
-struct Script {
-    desks: Desks,
-    sheet: Option<Sheet>,
+/// A load of a sheet, with a rank list or without.
+fn any_load(
+    random: &mut Random,
+    report: &mut Report,
+    desks: &mut Desks,
+    bytes: &[u8],
+    buffers: Buffers,
+) -> Compared {
+    let ranks = any_ranks(random, bytes);
+    let number = desks.load(report, bytes, ranks.as_deref(), buffers);
+    number.map(|_| ())
 }
 
-impl Script {
-    fn new() -> Script {
-        Script {
-            desks: Desks::fresh(),
-            sheet: None,
-        }
-    }
-
-    fn load(&mut self, report: &mut Report, bytes: &[u8], buffers: Buffers) -> Compared {
-        if self.desks.load(report, bytes, buffers)? == 0 {
-            self.sheet = Some(made_up_sheet(bytes));
-        }
-        Ok(())
-    }
-
-    fn mark(&mut self, random: &mut Random, report: &mut Report) -> Compared {
-        let list = any_list(random, self.sheet.as_ref());
-        self.desks.mark(report, &list).map(|_| ())
-    }
+/// A mark of a list for the loaded sheet.
+fn any_mark(random: &mut Random, report: &mut Report, desks: &mut Desks) -> Compared {
+    let list = any_list(random, desks.loaded());
+    desks.mark(report, &list).map(|_| ())
 }
 
 /// A script of 100 to 500 loads and marks, refusals among them.
 fn desk_script(random: &mut Random, report: &mut Report) -> Compared {
-    let mut script = Script::new();
+    let mut desks = Desks::fresh();
     for _ in 0..random.between(100, 500) {
-        if !once_in(random, 8) {
-            script.mark(random, report)?;
+        if !once_in(random, 6) {
+            any_mark(random, report, &mut desks)?;
             continue;
         }
         let mut bytes = sheet(random);
@@ -358,21 +367,21 @@ fn desk_script(random: &mut Random, report: &mut Report) -> Compared {
             damage_sheet(random, &mut bytes);
         }
         let buffers = any_buffers(random, &bytes);
-        script.load(report, &bytes, buffers)?;
+        any_load(random, report, &mut desks, &bytes, buffers)?;
     }
     Ok(())
 }
 
 /// A script that uses up all 9,999 numbers, and a hundred calls after that.
 fn desk_to_52(random: &mut Random, report: &mut Report) -> Compared {
-    let mut script = Script::new();
+    let mut desks = Desks::fresh();
     let mut after = 0;
     while after < 100 {
-        if script.desks.last_number() == 9999 {
+        if desks.last_number() == 9999 {
             after += 1;
         }
         if !once_in(random, 20) {
-            script.mark(random, report)?;
+            any_mark(random, report, &mut desks)?;
             continue;
         }
         let mut bytes = small_sheet(random);
@@ -380,13 +389,13 @@ fn desk_to_52(random: &mut Random, report: &mut Report) -> Compared {
             damage_sheet(random, &mut bytes);
         }
         let buffers = Buffers::just_enough(0, Content::any(random));
-        script.load(report, &bytes, buffers)?;
+        any_load(random, report, &mut desks, &bytes, buffers)?;
     }
     // No number is left, but loads go on.
     let bytes = small_sheet(random);
     let buffers = Buffers::just_enough(0, Content::any(random));
-    script.load(report, &bytes, buffers)?;
-    script.mark(random, report)
+    any_load(random, report, &mut desks, &bytes, buffers)?;
+    any_mark(random, report, &mut desks)
 }
 
 /// A sheet for print_plate: accepted, damaged, or with bytes after it.

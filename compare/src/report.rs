@@ -11,32 +11,41 @@ use std::fmt::{self, Display, Formatter};
 pub enum Call {
     Check,
     Make,
+    /// A making with a rank list.
+    RankMake,
     Read,
     List,
     Load,
+    /// A load with a rank list.
+    RankLoad,
     Mark,
     /// The printing of a sheet by the program print_plate.
     Print,
     /// A load that the program desk_session runs.
     RunLoad,
+    /// A load with a rank list that the program desk_session runs.
+    RunRank,
     /// A mark that the program desk_session runs.
     RunMark,
 }
 
-const CALLS: [Call; 9] = [
+const CALLS: [Call; 12] = [
     Call::Check,
     Call::Make,
+    Call::RankMake,
     Call::Read,
     Call::List,
     Call::Load,
+    Call::RankLoad,
     Call::Mark,
     Call::Print,
     Call::RunLoad,
+    Call::RunRank,
     Call::RunMark,
 ];
 
 /// The calls that are lent a workspace.
-const WITH_WORKSPACE: [Call; 2] = [Call::Make, Call::Load];
+const WITH_WORKSPACE: [Call; 4] = [Call::Make, Call::RankMake, Call::Load, Call::RankLoad];
 
 /// Something that was seen.
 #[derive(Clone, Copy, Debug, PartialEq, Eq, PartialOrd, Ord)]
@@ -72,10 +81,13 @@ fn numbers_of(call: Call) -> Vec<u8> {
     let own: &[u8] = match call {
         Call::Check => &[],
         Call::Print | Call::RunLoad => &[61],
+        Call::RunRank => &[61, 62, 63],
         Call::Make => &[21, 22, 61],
+        Call::RankMake => &[21, 22, 61, 62, 63],
         Call::Read => &[41, 42, 43, 44],
         Call::List => return vec![0],
         Call::Load => &[22, 61],
+        Call::RankLoad => &[22, 61, 62, 63],
         Call::Mark | Call::RunMark => return vec![0, 31, 32, 33, 51, 52],
     };
     [0].into_iter()
@@ -102,8 +114,56 @@ pub const ROW_REVERSED: &str = "plates with a row's points reversed";
 /// Plates with two outside points of one row, which are right otherwise.
 pub const LEADERS_READ: &str = "plates read with two leaders in a row";
 
-/// A loaded desk is given a sheet without a valid choice.
+/// A loaded desk is given a sheet without a valid choice, or a rank list that is wrong.
 pub const KEPT_BY_61: &str = "loads with 61 onto a loaded desk";
+pub const KEPT_BY_62: &str = "loads with 62 onto a loaded desk";
+pub const KEPT_BY_63: &str = "loads with 63 onto a loaded desk";
+
+/// Desks that were looked at field by field, after an accepted load and after a refused one.
+pub const WHOLE_LOADED: &str = "whole desks, a sheet loaded";
+pub const WHOLE_REFUSED: &str = "whole desks, no sheet loaded";
+
+/// A desk with ranks other than ones is given a sheet with a rank list, or without one.
+pub const RANKS_REPLACED: &str = "ranks replaced by those of a list";
+pub const RANKS_GONE: &str = "ranks replaced by ones";
+
+/// Rank lists of ones that were accepted, with some points.
+pub const RANKS_OF_ONES: &str = "rank lists of ones";
+
+/// What is wrong with rank lists that got 62 or 63.
+pub const RANK_FAULTS: [&str; 13] = [
+    "62: no count byte",
+    "62: another count, the length right",
+    "62: another count, with its own ranks",
+    "62: another count and another length",
+    "62: a byte too short",
+    "62: shorter than that",
+    "62: a byte too long",
+    "62: longer than that",
+    "63: a rank of 0",
+    "63: a rank of 10",
+    "63: a rank of 255",
+    "63: by the first rank alone",
+    "63: by the last rank alone",
+];
+
+/// Rank lists with both faults, which got 62.
+pub const BOTH_FAULTS: &str = "62: and a wrong rank";
+
+/// Wrong rank lists that met an earlier no, or came before a later one.
+pub const WRONG_BUT_SHEET: &str = "11 to 20 with a wrong rank list";
+pub const WRONG_BUT_21: &str = "21 with a wrong rank list";
+pub const WRONG_BUT_22: &str = "22 with a wrong rank list";
+pub const WRONG_AND_NO_CHOICE: &str = "62 or 63 and no valid choice";
+
+/// Ranked makings whose best choice is another than the one without a list, by how the reference
+/// finds it, and those of them with fewer points inside.
+pub const RANKS_DECIDED_TRIED: &str = "ranks decided, up to 12 points";
+pub const RANKS_DECIDED_SEARCHED: &str = "ranks decided, above 12 points";
+pub const RANKS_FOR_FEWER: &str = "ranks decided for fewer inside";
+
+/// Valid lists whose sum of ranks isn't their count.
+pub const SUMS: &str = "lists valid, the sum not the count";
 
 /// Plates of random bytes.
 pub const NEVER_A_PLATE: &str = "bytes that were never a plate";
@@ -116,13 +176,16 @@ pub const LISTED_TOO_SHORT: &str = "listed: a buffer one byte too short";
 pub const LISTED_NO_PLATE: &str = "listed: bytes that are no plate";
 pub const LISTED_MANY: &str = "listed: more than 32 points";
 
-/// How the reference found a best count.
+/// How the reference found a best choice.
 pub const TRIED: &str = "bests by every choice, up to 12 points";
 pub const SEARCHED: &str = "bests by the search, above 12 points";
 
-/// Ties: plates made, by how the reference finds the best count, and plates printed.
+/// Ties: plates made, by how the reference finds the best sum, without a rank list and with one, and
+/// plates printed.
 pub const TIES_TRIED: &str = "ties decided, up to 12 points";
 pub const TIES_SEARCHED: &str = "ties decided, above 12 points";
+pub const RANKED_TIES_TRIED: &str = "ranked ties decided, up to 12 points";
+pub const RANKED_TIES_SEARCHED: &str = "ranked ties decided, above 12 points";
 pub const PRINTED_TIES: &str = "printed: ties decided";
 
 /// The verdicts on lists.
@@ -170,14 +233,26 @@ pub const PRINTED_NOT_LAST: &str = "printed: the last outside isn't leftmost";
 pub const PRINTED_PIECES: &str = "printed: an input in pieces";
 pub const SCRIPT_PIECES: &str = "scripts in pieces";
 
-/// Features that must have been seen.
-const FEATURES: [&str; 54] = [
+/// Features that must have been seen, beside the faults of rank lists.
+const FEATURES: [&str; 74] = [
     "best plates with every point inside",
     "best plates with points outside",
     TRIED,
     SEARCHED,
     TIES_TRIED,
     TIES_SEARCHED,
+    RANKED_TIES_TRIED,
+    RANKED_TIES_SEARCHED,
+    RANKS_DECIDED_TRIED,
+    RANKS_DECIDED_SEARCHED,
+    RANKS_FOR_FEWER,
+    RANKS_OF_ONES,
+    BOTH_FAULTS,
+    WRONG_BUT_SHEET,
+    WRONG_BUT_21,
+    WRONG_BUT_22,
+    WRONG_AND_NO_CHOICE,
+    SUMS,
     "sheets with equal columns",
     "sheets with distinct rows",
     "sheets with shared rows",
@@ -202,6 +277,12 @@ const FEATURES: [&str; 54] = [
     LISTED_MANY,
     "loads onto a loaded desk",
     KEPT_BY_61,
+    KEPT_BY_62,
+    KEPT_BY_63,
+    RANKS_REPLACED,
+    RANKS_GONE,
+    WHOLE_LOADED,
+    WHOLE_REFUSED,
     "loads after number 9999",
     "printed: no margin column",
     "printed: 1 margin column",
@@ -217,12 +298,14 @@ const FEATURES: [&str; 54] = [
     "scripts' parts above 4,096 bytes",
     "scripts' loads after marks",
     "bad calls of kind 0",
-    "bad calls of kind 3",
+    "bad calls of kind 4",
+    "bad calls of kind 13",
     "bad calls of kind 255",
     "bad calls of other kinds",
     "bad calls cut after the kind",
     "bad calls cut in the length",
     "bad calls cut in the bytes",
+    "bad calls cut in the second part",
     "bad calls after good ones",
     "bad calls with calls after them",
     SCRIPT_PIECES,
@@ -236,14 +319,18 @@ const OFTEN_OF_PROGRAM: u64 = 3;
 
 fn often(call: Call) -> u64 {
     match call {
-        Call::Print | Call::RunLoad | Call::RunMark => OFTEN_OF_PROGRAM,
+        Call::Print | Call::RunLoad | Call::RunRank | Call::RunMark => OFTEN_OF_PROGRAM,
         _ => OFTEN,
     }
 }
 
 fn often_of_feature(feature: &str) -> u64 {
     match feature {
-        TIES_TRIED | TIES_SEARCHED => OFTEN,
+        TIES_TRIED | TIES_SEARCHED | RANKED_TIES_TRIED | RANKED_TIES_SEARCHED => OFTEN,
+        RANKS_DECIDED_TRIED | RANKS_DECIDED_SEARCHED | RANKS_FOR_FEWER => OFTEN,
+        RANKS_OF_ONES | BOTH_FAULTS | SUMS | RANKS_REPLACED | RANKS_GONE => OFTEN,
+        WHOLE_LOADED | WHOLE_REFUSED => OFTEN,
+        WRONG_BUT_SHEET | WRONG_BUT_21 | WRONG_BUT_22 | WRONG_AND_NO_CHOICE => OFTEN,
         PRINTED_TIES => OFTEN_OF_PROGRAM,
         _ => 1,
     }
@@ -264,6 +351,7 @@ fn required() -> Vec<(Seen, u64)> {
         required.extend(VERDICTS.map(|verdict| (Seen::Verdict(call, verdict), often(call))));
     }
     required.extend(FEATURES.map(|feature| (Seen::Feature(feature), often_of_feature(feature))));
+    required.extend(RANK_FAULTS.map(|fault| (Seen::Feature(fault), OFTEN)));
     required
 }
 
@@ -386,8 +474,9 @@ impl Report {
             self.points(),
             self.workspaces(),
             self.verdicts(),
-            FEATURES
+            RANK_FAULTS
                 .into_iter()
+                .chain(FEATURES)
                 .map(|feature| (feature, self.count(Seen::Feature(feature))))
                 .map(|(feature, count)| format!("{feature:<40}{count:>9}\n"))
                 .collect(),
@@ -422,17 +511,14 @@ impl Report {
 
     /// A row for each content and length of workspaces.
     fn workspaces(&self) -> String {
-        let columns = ["made", "refused", "loaded", "refused"].map(String::from);
+        let columns =
+            WITH_WORKSPACE.map(|call| format!("{:>9}{:>9}", format!("{call:?}"), "refused"));
         let mut text = row("workspace", columns);
         for kind in workspace_kinds() {
-            let count = |call, accepted| self.count(Seen::Workspace(call, accepted, kind));
-            let counts = [
-                count(Call::Make, true),
-                count(Call::Make, false),
-                count(Call::Load, true),
-                count(Call::Load, false),
-            ];
-            text.push_str(&row(kind, counts.map(unless_0)));
+            let count =
+                |call, accepted| unless_0(self.count(Seen::Workspace(call, accepted, kind)));
+            let both = |call| format!("{:>9}{:>9}", count(call, true), count(call, false));
+            text.push_str(&row(kind, WITH_WORKSPACE.map(both)));
         }
         text
     }

@@ -1,6 +1,8 @@
 //! Made-up sheets that keep the rules; a third of them have shared rows, and some no valid choice.
 
-use reference::random::{accepted, random_sheet, sheet_bytes, with_room, Random};
+use reference::random::{
+    accepted, falling_distinct_rows_sheet, random_sheet, sheet_bytes, with_room, Random,
+};
 use reference::{check_sheet, Sheet};
 
 /// A sheet of 0 to 32 points.
@@ -13,9 +15,10 @@ pub fn sheet(random: &mut Random) -> Vec<u8> {
 /// Some sheets with shared rows have fewer points.
 pub fn sheet_of(random: &mut Random, n: u16) -> Vec<u8> {
     let label = (label_side(random), label_side(random));
-    let bytes = match random.below(12) {
+    let bytes = match random.below(14) {
         0..=4 => with_shared_rows(random, label, n),
         5 => in_few_rows(random, label, n),
+        6..=7 => return on_a_stair(random, n),
         _ => in_distinct_rows(random, label, n),
     };
     some_with_room(random, bytes)
@@ -66,6 +69,17 @@ fn in_distinct_rows(random: &mut Random, label: (u16, u16), n: u16) -> Vec<u8> {
         _ => shuffle(random, &mut points),
     }
     sheet_bytes(map, label, &points)
+}
+
+/// Points in distinct rows whose columns fall as rows rise, with room for every label. Labels meet and
+/// leaders are seldom in their way, so that often several choices are best, or the ranks decide.
+fn on_a_stair(random: &mut Random, n: u16) -> Vec<u8> {
+    let rows = n.max(1);
+    let label = (random.between(2, 8), random.between(2, 4));
+    let map = (random.between(4, 4 * rows), random.between(rows, 2 * rows));
+    let noise = random.between(1, label.0);
+    let bytes = falling_distinct_rows_sheet(random, map, label, n, noise);
+    with_room(&Sheet::read(&bytes).expect("a made-up sheet keeps the rules"))
 }
 
 /// Points so close that labels and leaders are in each other's way nearly everywhere.

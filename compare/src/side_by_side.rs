@@ -2,16 +2,19 @@
 //! A difference is an `Err` with what differs.
 
 use crate::lent::{length_name, Content, Lent};
-use crate::library;
+use crate::library::{self, ExportedDesk, Held};
 use crate::programs::{self, Program};
+use crate::ranks;
 use crate::report::{Call, Report, Seen, EMPTY_START, ONE_TOO_FEW, SEARCHED, TRIED};
 use crate::report::{KEPT_BY_61, LISTED_MANY, LISTED_NO_PLATE, LISTED_TOO_SHORT, ZEROED_BY_61};
+use crate::report::{KEPT_BY_62, KEPT_BY_63, RANKS_GONE, RANKS_REPLACED, SUMS};
 use crate::report::{PRINTED_NOT_LAST, PRINTED_PIECES, PRINTED_TIES, SCRIPT_PIECES};
+use crate::report::{WHOLE_LOADED, WHOLE_REFUSED};
 use crate::scripts;
 use reference::margin::outside_pairs;
 use reference::search::TRY_ALL_POINTS;
 use reference::WORKSPACE_NUMBERS;
-use reference::{best_choice, margin_width, several_best, Choice, Marked, Sheet};
+use reference::{best_choice, margin_width, several_best, Choice, Marked, Ranks, Sheet, Verdict};
 use std::fmt::Display;
 
 pub type Compared = Result<(), String>;
@@ -42,6 +45,44 @@ impl Buffers {
 
     fn lent_workspace(&self) -> Lent<u16> {
         Lent::workspace(self.workspace, self.offset, self.content)
+    }
+
+    /// A copy of a rank list to lend, if there is one.
+    fn lent_ranks(&self, ranks: Option<&[u8]>) -> Option<Lent<u8>> {
+        ranks.map(|ranks| Lent::copy_of(ranks, self.offset / 2))
+    }
+}
+
+/// The part to lend of a copy of a rank list, if there is one.
+fn part_of(ranks: &Option<Lent<u8>>) -> Option<&[u8]> {
+    ranks.as_ref().map(Lent::part)
+}
+
+/// Is the rank list as it was, if there is one?
+fn ranks_untouched(ranks: &Option<Lent<u8>>) -> bool {
+    ranks.as_ref().is_none_or(Lent::untouched)
+}
+
+/// Holds the rank list of the call in hand, if there is one.
+fn hold_ranks(report: &mut Report, ranks: Option<&[u8]>) {
+    if let Some(ranks) = ranks {
+        report.hold("  with the rank list", ranks);
+    }
+}
+
+/// Which call a making is: with a rank list or without.
+fn making_call(ranks: Option<&[u8]>) -> Call {
+    match ranks {
+        Some(_) => Call::RankMake,
+        None => Call::Make,
+    }
+}
+
+/// Which call a load is: with a rank list or without.
+fn load_call(ranks: Option<&[u8]>) -> Call {
+    match ranks {
+        Some(_) => Call::RankLoad,
+        None => Call::Load,
     }
 }
 
@@ -117,24 +158,34 @@ fn workspace_after(
     Ok(())
 }
 
-/// A making. Gives the plate if one was made.
+/// A making, with this rank list if there is one. Gives the plate if one was made.
 pub fn making(
     report: &mut Report,
     bytes: &[u8],
+    ranks: Option<&[u8]>,
     buffers: Buffers,
 ) -> Result<Option<Vec<u8>>, String> {
     report.hold("sheet to make", bytes);
+    hold_ranks(report, ranks);
+    let call = making_call(ranks);
     let lent = Lent::copy_of(bytes, buffers.offset);
+    let lent_ranks = buffers.lent_ranks(ranks);
     let mut output = Lent::output(buffers.output, buffers.offset);
     let mut workspace = buffers.lent_workspace();
-    let answer = library::make(lent.part(), output.lend(), workspace.lend());
+    let list = part_of(&lent_ranks);
+    let answer = library::make(lent.part(), list, output.lend(), workspace.lend());
     let number = number_of(&answer);
-    let wanted = reference::make(bytes, buffers.output, buffers.workspace);
+    let wanted = reference::make_ranked(bytes, ranks, buffers.output, buffers.workspace);
     let wanted_number = number_of(&wanted);
-    same(&format!("making with {buffers:?}"), number, wanted_number)?;
+    same(&format!("{call:?} with {buffers:?}"), number, wanted_number)?;
     must(lent.untouched(), "the making wrote to its sheet")?;
-    report.answered(Call::Make, number);
-    workspace_after(report, Call::Make, number, buffers, &workspace)?;
+    let untouched = ranks_untouched(&lent_ranks);
+    must(untouched, "the making wrote to its rank list")?;
+    report.answered(call, number);
+    if let Some(ranks) = ranks {
+        ranks::note(report, bytes, ranks, number);
+    }
+    workspace_after(report, call, number, buffers, &workspace)?;
     let (Ok(written), Ok(wanted)) = (answer, wanted) else {
         must(output.untouched(), "a refused making wrote to the output")?;
         return Ok(None);
@@ -144,7 +195,7 @@ pub fn making(
     let plate = output.part()[..written].to_vec();
     report.hold("plate made", &plate);
     same_plate(bytes, &plate, &wanted)?;
-    made_plate(report, bytes, &plate)?;
+    made_plate(report, call, bytes, &plate)?;
     Ok(Some(plate))
 }
 
@@ -161,14 +212,18 @@ pub fn same_plate(sheet: &[u8], plate: &[u8], wanted: &[u8]) -> Compared {
     Err(format!("the plate differs at byte {place}: {differ}"))
 }
 
-/// The listing of a plate that was made of this sheet, as it must be, and what there is to see in it.
-fn made_plate(report: &mut Report, bytes: &[u8], plate: &[u8]) -> Compared {
+/// The listing of a plate that this call made of this sheet, as it must be, and what there is to see in
+/// it.
+fn made_plate(report: &mut Report, call: Call, bytes: &[u8], plate: &[u8]) -> Compared {
     let sheet = accepted_sheet(bytes)?;
     let n = sheet.points().len();
     let choice = choice_of_plate(plate).ok_or("the plate has no inside list")?;
     listing(report, plate, &reference::listing(&sheet, choice))?;
-    report.accepted(Call::Make, n);
+    report.accepted(call, n);
     report.feature(way_to_best(n));
+    if call == Call::RankMake {
+        ranks::note_best(report, &sheet, choice);
+    }
     report.feature(match usize::try_from(choice.0.count_ones()) == Ok(n) {
         true => "best plates with every point inside",
         false => "best plates with points outside",
@@ -176,7 +231,7 @@ fn made_plate(report: &mut Report, bytes: &[u8], plate: &[u8]) -> Compared {
     Ok(())
 }
 
-/// How the reference finds the best count of n points.
+/// How the reference finds the best choice of n points.
 fn way_to_best(n: usize) -> &'static str {
     match n <= TRY_ALL_POINTS {
         true => TRIED,
@@ -285,51 +340,73 @@ impl Desks {
         self.reference.last_number()
     }
 
-    /// A load; gives the number of both.
+    /// The loaded sheet and its points' ranks.
+    pub fn loaded(&self) -> Option<(&Sheet, &Ranks)> {
+        self.reference.sheet_and_ranks()
+    }
+
+    /// A load, with this rank list if there is one; gives the number of both.
     pub fn load(
         &mut self,
         report: &mut Report,
         bytes: &[u8],
+        ranks: Option<&[u8]>,
         buffers: Buffers,
     ) -> Result<u8, String> {
         report.hold("load", bytes);
+        hold_ranks(report, ranks);
+        let call = load_call(ranks);
         let lent = Lent::copy_of(bytes, buffers.offset);
+        let lent_ranks = buffers.lent_ranks(ranks);
         let mut workspace = buffers.lent_workspace();
-        let was_loaded = self.reference.loaded().is_some();
-        let (desk, answer) = self.proved.copy().load(lent.part(), workspace.lend());
+        let before = self.reference.clone();
+        let list = part_of(&lent_ranks);
+        let (desk, answer) = self.proved.copy().load(lent.part(), list, workspace.lend());
         let number = number_of(&answer);
-        let wanted = self.reference.load(bytes, buffers.workspace);
-        same(&format!("load with {buffers:?}"), number, wanted)?;
+        let wanted = self.reference.load_ranked(bytes, ranks, buffers.workspace);
+        same(&format!("{call:?} with {buffers:?}"), number, wanted)?;
         must(lent.untouched(), "the load wrote to its sheet")?;
-        report.answered(Call::Load, number);
-        workspace_after(report, Call::Load, number, buffers, &workspace)?;
+        let untouched = ranks_untouched(&lent_ranks);
+        must(untouched, "the load wrote to its rank list")?;
+        report.answered(call, number);
+        if let Some(ranks) = ranks {
+            ranks::note(report, bytes, ranks, number);
+        }
+        workspace_after(report, call, number, buffers, &workspace)?;
         let unchanged = desk == self.proved;
         self.proved = desk;
+        self.show_the_same()?;
         if number != 0 {
             must(unchanged, "a refused load changed the desk")?;
-            if number == 61 && was_loaded {
-                report.feature(KEPT_BY_61);
-            }
+            note_kept(report, number, &before);
             return Ok(number);
         }
         let n = accepted_sheet(bytes)?.points().len();
-        report.accepted(Call::Load, n);
+        report.accepted(call, n);
         report.feature(way_to_best(n));
-        if was_loaded {
-            report.feature("loads onto a loaded desk");
-        }
+        note_replaced(report, ranks, &before);
         if self.last_number() == 9999 {
             report.feature("loads after number 9999");
         }
-        self.shows_best()?;
+        self.mark_the_same()?;
         Ok(number)
     }
 
-    /// The best count, as the desks show it, and the last number, as copies of them do: the empty
-    /// list has the next one.
-    fn shows_best(&self) -> Compared {
+    /// What the desks show: the sheet, its points' ranks, the best sum, the last number.
+    fn show_the_same(&self) -> Compared {
+        let loaded = self.loaded();
+        let sheet = loaded.map(|(sheet, _)| sheet.bytes());
+        same("the desk's sheet", self.proved.sheet(), sheet)?;
+        let ranks = loaded.map(|(_, ranks)| ranks.by_position());
+        same("the desk's ranks", self.proved.ranks(), ranks)?;
         let best = self.reference.loaded().map(|(_, best)| best);
-        same("the best count after a load", self.proved.best(), best)?;
+        same("the desk's best sum", self.proved.best(), best)?;
+        let last = self.proved.last_number();
+        same("the desk's last number", last, self.last_number())
+    }
+
+    /// How copies of the desks go on: the empty list has the next number.
+    fn mark_the_same(&self) -> Compared {
         let (_, proved) = self.proved.copy().mark(&[0]);
         let reference = self.reference.clone().mark(&[0]);
         same("the empty list after a load", proved, reference)
@@ -345,6 +422,7 @@ impl Desks {
         report.answered(Call::Mark, number_of(&answer));
         let unchanged = desk == self.proved;
         self.proved = desk;
+        self.show_the_same()?;
         let Ok(marked) = answer else {
             must(unchanged, "a refused mark changed the desk")?;
             return Ok(answer);
@@ -352,7 +430,88 @@ impl Desks {
         let (n, _) = self.reference.loaded().ok_or("marked without a sheet")?;
         report.accepted(Call::Mark, n);
         report.verdict(Call::Mark, marked.verdict);
+        note_sum(report, list, marked.verdict);
         Ok(answer)
+    }
+}
+
+/// A load onto a fresh desk, with this rank list if there is one: every field of the desk is as it must
+/// be, what stands past the sheet and past its ranks too.
+pub fn whole_desk(
+    report: &mut Report,
+    bytes: &[u8],
+    ranks: Option<&[u8]>,
+    buffers: Buffers,
+) -> Compared {
+    report.hold("load onto a fresh desk", bytes);
+    hold_ranks(report, ranks);
+    let mut workspace = buffers.lent_workspace();
+    let proved = library::exported_load(bytes, ranks, workspace.lend());
+    let mut desk = reference::Desk::fresh();
+    let number = desk.load_ranked(bytes, ranks, buffers.workspace);
+    same("the whole desk", proved, whole(&desk))?;
+    report.feature(match number {
+        0 => WHOLE_LOADED,
+        _ => WHOLE_REFUSED,
+    });
+    Ok(())
+}
+
+/// A desk of the reference, field by field: zeros past the sheet and past its ranks, and throughout if
+/// no sheet is loaded.
+fn whole(desk: &reference::Desk) -> ExportedDesk {
+    let mut held = Held {
+        sheet: [0; 202],
+        ranks: [0; 32],
+        loaded: 0,
+        spare: 0,
+        best: 0,
+    };
+    if let (Some((sheet, ranks)), Some((n, best))) = (desk.sheet_and_ranks(), desk.loaded()) {
+        held.sheet[..sheet.bytes().len()].copy_from_slice(sheet.bytes());
+        held.ranks[..n].copy_from_slice(ranks.by_position());
+        (held.loaded, held.best) = (1, best);
+    }
+    ExportedDesk {
+        held,
+        last: desk.last_number(),
+    }
+}
+
+/// Notes a load refused with this number that kept the sheet and the ranks of this desk.
+fn note_kept(report: &mut Report, number: u8, desk: &reference::Desk) {
+    if desk.loaded().is_none() {
+        return;
+    }
+    match number {
+        61 => report.feature(KEPT_BY_61),
+        62 => report.feature(KEPT_BY_62),
+        63 => report.feature(KEPT_BY_63),
+        _ => {}
+    }
+}
+
+/// Notes what an accepted load with this rank list replaced on this desk.
+fn note_replaced(report: &mut Report, ranks: Option<&[u8]>, desk: &reference::Desk) {
+    let Some((sheet, held)) = desk.sheet_and_ranks() else {
+        return;
+    };
+    report.feature("loads onto a loaded desk");
+    if *held != Ranks::ones(sheet) {
+        report.feature(match ranks {
+            Some(_) => RANKS_REPLACED,
+            None => RANKS_GONE,
+        });
+    }
+}
+
+/// Notes a valid list whose sum isn't its count.
+fn note_sum(report: &mut Report, list: &[u8], verdict: Verdict) {
+    let Verdict::Valid { sum, .. } = verdict else {
+        return;
+    };
+    if sum != u16::from(list[0]) {
+        report.feature(SUMS);
     }
 }
 
@@ -400,7 +559,7 @@ fn note_printed_plate(report: &mut Report, sheet: &Sheet) -> u8 {
     if width != last && usize::from(width) != pairs.len() {
         report.feature(PRINTED_NOT_LAST);
     }
-    if several_best(sheet) {
+    if several_best(sheet, &Ranks::ones(sheet)) {
         report.feature(PRINTED_TIES);
     }
     0
