@@ -3,7 +3,7 @@
 
 use bench::plate::{self, MOST, WORKSPACE};
 use bench::proved::{self, Desk};
-use bench::sheets::{families, Family, Random, SIZES};
+use bench::sheets::{families, Case, Family, Random, SIZES};
 use bench::{baseline, listing, masks};
 use std::array::from_fn;
 use std::hint::black_box;
@@ -14,13 +14,14 @@ const SHEETS: usize = 200;
 const ROUNDS: usize = 40;
 const OUTPUT: usize = 12 + 8 * MOST;
 
-type Make = fn(&[u8], &mut [u8], &mut [u16]) -> Result<usize, u8>;
+type Make = fn(&[u8], Option<&[u8]>, &mut [u8], &mut [u16]) -> Result<usize, u8>;
 type List = fn(&[u8], &mut [u8]) -> Option<usize>;
 /// Rust with the proved library's loops, the proved library, and the other Rust
 /// maker.
 const MAKERS: [Make; 3] = [baseline::make, proved::make, masks::make];
 
-/// What a making is lent: lengths, and what the workspace comes filled with.
+/// The buffers that a making is lent: lengths, and what the workspace comes filled
+/// with.
 #[derive(Clone, Copy)]
 struct Lent {
     output: usize,
@@ -30,10 +31,11 @@ struct Lent {
 
 /// What a making leaves: the answer; the plate; whether the rest is as documents
 /// 01 and 02 (c) say.
-fn outcome(make: Make, sheet: &[u8], lent: Lent) -> (Result<usize, u8>, Vec<u8>, bool) {
+fn outcome(make: Make, case: &Case, lent: Lent) -> (Result<usize, u8>, Vec<u8>, bool) {
     let mut output = vec![0xa5; lent.output];
     let mut workspace = vec![lent.filled; lent.workspace];
-    let answer = make(sheet, &mut output, &mut workspace);
+    let ranks = case.ranks.as_deref();
+    let answer = make(&case.sheet, ranks, &mut output, &mut workspace);
     let (written, left) = match answer {
         Ok(written) => (written, 0),
         Err(61) => (0, 0),
@@ -46,23 +48,23 @@ fn outcome(make: Make, sheet: &[u8], lent: Lent) -> (Result<usize, u8>, Vec<u8>,
     (answer, output, clean)
 }
 
-/// Whether all makers agree on a sheet.
-fn agree(sheet: &[u8], lent: Lent) -> bool {
-    let outcomes = MAKERS.map(|make| outcome(make, sheet, lent));
+/// Whether all makers agree on a sheet and its rank list.
+fn agree(case: &Case, lent: Lent) -> bool {
+    let outcomes = MAKERS.map(|make| outcome(make, case, lent));
     outcomes
         .iter()
         .all(|other| *other == outcomes[0] && other.2)
 }
 
-/// A sheet with a few bytes changed, now and then cut or lengthened.
-fn damaged(random: &mut Random, sheet: &[u8]) -> Vec<u8> {
-    let mut bytes = sheet.to_vec();
+/// A sheet or a rank list with a few bytes changed, now and then cut or
+/// lengthened.
+fn damaged(random: &mut Random, bytes: &[u8]) -> Vec<u8> {
+    let mut bytes = bytes.to_vec();
     for _ in 0..random.within(0, 2) {
-        let reach = if random.within(0, 1) == 0 {
-            9
-        } else {
-            bytes.len() - 1
-        };
+        let mut reach = bytes.len() - 1;
+        if random.within(0, 1) == 0 {
+            reach = reach.min(9);
+        }
         bytes[random.within(0, reach)] = random.within(0, 255) as u8;
     }
     if random.within(0, 7) == 0 {
@@ -71,11 +73,12 @@ fn damaged(random: &mut Random, sheet: &[u8]) -> Vec<u8> {
     bytes
 }
 
-/// How many of the family's sheets, whole and damaged, makers disagree on.
+/// How many of the family's sheets and rank lists, whole and damaged, makers
+/// disagree on.
 fn disagreements(family: &Family) -> usize {
     let mut random = Random::new(77);
     let mut count = 0;
-    for sheet in &family.sheets {
+    for case in &family.cases {
         let least = 12 + 8 * family.points;
         let enough = Lent {
             output: OUTPUT,
@@ -87,9 +90,13 @@ fn disagreements(family: &Family) -> usize {
             workspace: random.within(WORKSPACE - 1, WORKSPACE + 8),
             ..enough
         };
-        let broken = damaged(&mut random, sheet);
-        for (bytes, lent) in [(sheet, enough), (sheet, scarce), (&broken, scarce)] {
-            count += usize::from(!agree(bytes, lent));
+        let mut broken = |bytes: &Vec<u8>| damaged(&mut random, bytes);
+        let broken = Case {
+            sheet: broken(&case.sheet),
+            ranks: case.ranks.as_ref().map(broken),
+        };
+        for (case, lent) in [(case, enough), (case, scarce), (&broken, scarce)] {
+            count += usize::from(!agree(case, lent));
         }
     }
     count
@@ -122,10 +129,11 @@ fn times<const N: usize>(sheets: usize, mut call: impl FnMut(usize, usize)) -> [
 fn maker_times(family: &Family) -> [f64; 3] {
     let mut output = [0; OUTPUT];
     let mut workspace = vec![0; WORKSPACE];
-    times(family.sheets.len(), |which, sheet| {
+    times(family.cases.len(), |which, at| {
         let make = black_box(MAKERS[which]);
-        let sheet = black_box(&family.sheets[sheet]);
-        let _ = black_box(make(sheet, &mut output, &mut workspace));
+        let case = black_box(&family.cases[at]);
+        let ranks = case.ranks.as_deref();
+        let _ = black_box(make(&case.sheet, ranks, &mut output, &mut workspace));
     })
 }
 
@@ -141,7 +149,7 @@ impl Given {
     fn new(sheet: Vec<u8>) -> Given {
         let mut workspace = vec![0; WORKSPACE];
         let mut plate = vec![0; OUTPUT];
-        let written = proved::make(&sheet, &mut plate, &mut workspace).expect("a good sheet");
+        let written = proved::make(&sheet, None, &mut plate, &mut workspace).expect("a good sheet");
         plate.truncate(written);
         let (desk, loaded) = proved::load(&sheet, &mut workspace);
         assert!(loaded);
@@ -185,8 +193,8 @@ fn call_times(given: &[Given]) -> [f64; 9] {
         match which {
             0 => _ = black_box(plate::check_sheet(sheet)),
             1 => _ = black_box(proved::check_sheet(sheet)),
-            2 => _ = black_box(baseline::make(sheet, &mut output, &mut workspace)),
-            3 => _ = black_box(proved::make(sheet, &mut output, &mut workspace)),
+            2 => _ = black_box(baseline::make(sheet, None, &mut output, &mut workspace)),
+            3 => _ = black_box(proved::make(sheet, None, &mut output, &mut workspace)),
             4 => _ = black_box(listing::listing(plate, &mut text)),
             5 => _ = black_box(proved::listing(plate, &mut text)),
             6 => _ = black_box(proved::read_plate(plate)),
@@ -239,7 +247,9 @@ fn makers() -> usize {
     println!("before a call: the workspace is zero, as the call before left it. \"Rust\" has");
     println!("the proved library's loops; \"masks\" is another Rust maker of the same");
     println!("recurrence, which fills the whole table and keeps sets of points as bits.");
-    println!("/Rust and /masks are the proved maker's time divided by theirs.");
+    println!("/Rust and /masks are the proved maker's time divided by theirs. \"up left,");
+    println!("ranked\" has the sheets of \"staircase up left\" with rank lists; there the ranks");
+    println!("decide most of the plates.");
     println!();
     println!(
         "{:<21}{:>6}{:>8}{:>8}{:>7}{:>8}{:>8}",
@@ -273,7 +283,8 @@ fn other_calls() -> usize {
     let timed = |family: &Family| ["dense", "sparse", "ridge lines"].contains(&family.name);
     for family in families(MOST, SHEETS).filter(timed) {
         println!();
-        let given: Vec<Given> = family.sheets.into_iter().map(Given::new).collect();
+        let sheets = family.cases.into_iter().map(|case| case.sheet);
+        let given: Vec<Given> = sheets.map(Given::new).collect();
         print_calls(family.name, call_times(&given));
         wrong += given.iter().filter(|given| !given.accepted()).count();
     }

@@ -10,7 +10,7 @@ const LONG: usize = 64;
 
 struct Map {
     n: usize,
-    rank: [u8; LONG],
+    right_rank: [u8; LONG],
     order: [u8; LONG],
     /// What i weighs if it is inside.
     weight: [u64; LONG],
@@ -67,7 +67,7 @@ impl Map {
         let n = points.n;
         let mut map = Map {
             n,
-            rank: [n as u8; LONG],
+            right_rank: [n as u8; LONG],
             order: [0; LONG],
             weight: [0; LONG],
             allowed: [false; LONG],
@@ -78,7 +78,7 @@ impl Map {
             over: [0; LONG],
             level: [0; LONG],
         };
-        map.rank[..PLACES].copy_from_slice(&points.rank);
+        map.right_rank[..PLACES].copy_from_slice(&points.right_rank);
         map.weight[..PLACES].copy_from_slice(&points.weight);
         map.allowed[..PLACES].copy_from_slice(&points.allowed);
         map.order[..points.order.len()].copy_from_slice(&points.order);
@@ -111,7 +111,7 @@ impl Map {
 
     #[inline]
     fn limit(&self, a: usize, b: usize) -> usize {
-        usize::from(self.rank[a].min(self.rank[b]))
+        usize::from(self.right_rank[a].min(self.right_rank[b]))
     }
 
     #[inline]
@@ -135,8 +135,8 @@ impl Map {
             & (self.meet[i] >> (q % LONG) & 1 == 0)
     }
 
-    /// One more than the best of a slab, its open points given by their ranks, or
-    /// 0 if it has no valid choice: so if a and b are in one row.
+    /// One more than the best of a slab, its open points given by their right
+    /// ranks, or 0 if it has no valid choice: so if a and b are in one row.
     #[inline]
     fn entry(&self, table: &[[u16; 4]], (a, b, q): (usize, usize, usize), open: u64) -> u64 {
         if self.level[a % LONG] >> (b % LONG) & 1 == 1 {
@@ -161,7 +161,7 @@ impl Map {
 
     fn fill(&self, table: &mut [[u16; 4]]) {
         for b in 1..=self.n + 1 {
-            // The ranks of the points strictly between a and b.
+            // The right ranks of the points strictly between a and b.
             let mut between = 0;
             for a in (0..b).rev() {
                 let open = between & below(self.limit(a, b));
@@ -169,7 +169,7 @@ impl Map {
                     let value = self.entry(table, (a, b, q), open);
                     put(table, place(a, b, q), value);
                 }
-                between |= 1u64 << (self.rank[a] % 64);
+                between |= 1u64 << (self.right_rank[a] % 64);
             }
         }
     }
@@ -203,10 +203,16 @@ impl Map {
     }
 }
 
-/// Makes a best plate; its length, or the number of the refusal.
-pub fn make(sheet: &[u8], output: &mut [u8], workspace: &mut [u16]) -> Result<usize, u8> {
-    let n = check_make(sheet, output, workspace)?;
-    let points = Points::new(sheet, n);
+/// Makes the best plate, with a rank list if one is lent; its length, or the
+/// number of the refusal.
+pub fn make(
+    sheet: &[u8],
+    ranks: Option<&[u8]>,
+    output: &mut [u8],
+    workspace: &mut [u16],
+) -> Result<usize, u8> {
+    let (n, ranks) = check_make(sheet, ranks, output, workspace)?;
+    let points = Points::new(sheet, n, &ranks);
     let map = Map::new(&points);
     let (table, _) = workspace.as_chunks_mut::<4>();
     map.fill(table);

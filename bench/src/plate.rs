@@ -1,6 +1,6 @@
-//! Sheet and plate as bytes (documents 01 and 02 (a) to (d)): the questions in
-//! their order, the two orders of the points, what each weighs, and a plate
-//! written from a choice.
+//! Sheet, rank list and plate as bytes (documents 01 and 02 (a) to (e)): the
+//! questions in their order, the two orders of the points, what each weighs, and
+//! a plate written from a choice.
 
 /// The most points a sheet can have.
 pub const MOST: usize = 32;
@@ -64,8 +64,30 @@ pub fn check_sheet(sheet: &[u8]) -> Result<usize, u8> {
     Ok(n)
 }
 
-/// Asks all of making's questions; the number of points, or the first no.
-pub fn check_make(sheet: &[u8], output: &[u8], workspace: &[u16]) -> Result<usize, u8> {
+/// Asks a rank list's questions; the rank of each position below n, or the first
+/// no. Without a list every rank is 1.
+fn check_ranks(list: Option<&[u8]>, n: usize) -> Result<[u8; MOST], u8> {
+    let mut ranks = [1; MOST];
+    if let Some(list) = list {
+        if list.len() != 1 + n || usize::from(list[0]) != n {
+            return Err(62);
+        }
+        if !list[1..].iter().all(|rank| (1..=9).contains(rank)) {
+            return Err(63);
+        }
+        ranks[..n].copy_from_slice(&list[1..]);
+    }
+    Ok(ranks)
+}
+
+/// Asks all of making's questions but 61; the number of points and the rank of
+/// each position, or the first no.
+pub fn check_make(
+    sheet: &[u8],
+    ranks: Option<&[u8]>,
+    output: &[u8],
+    workspace: &[u16],
+) -> Result<(usize, [u8; MOST]), u8> {
     let n = check_sheet(sheet)?;
     if output.len() < 12 + 8 * n {
         return Err(21);
@@ -73,15 +95,16 @@ pub fn check_make(sheet: &[u8], output: &[u8], workspace: &[u16]) -> Result<usiz
     if workspace.len() < WORKSPACE {
         return Err(22);
     }
-    Ok(n)
+    Ok((n, check_ranks(ranks, n)?))
 }
 
-/// What the point at a position weighs if it is inside, so that the preferred one
-/// of the best choices has the greatest sum. The high half of a sum is the count,
-/// and the low half has a bit for each point, the first position's the highest.
+/// What a point of this rank and position weighs if it is inside, so that the
+/// preferred one of the best choices weighs most. The high half of the weight of
+/// a choice is its sum of ranks, and the low half has a bit for each point, the
+/// first position's the highest.
 #[inline]
-fn weight(position: u32) -> u64 {
-    (1 << 32) + (0x8000_0000 >> position)
+fn weight(rank: u8, position: usize) -> u64 {
+    (u64::from(rank) << 32) + (0x8000_0000 >> position)
 }
 
 /// A sheet's points in height order, 1 to n; 0 and n + 1 are the boundaries.
@@ -101,14 +124,15 @@ pub struct Points {
     /// Whether the label, inside, is on the map.
     pub allowed: [bool; PLACES],
     /// The place in right order, from 0; n for both boundaries.
-    pub rank: [u8; PLACES],
-    /// The point of each rank.
+    pub right_rank: [u8; PLACES],
+    /// The point of each right rank.
     pub order: [u8; MOST],
 }
 
 impl Points {
-    /// The points of a sheet whose questions are answered yes.
-    pub fn new(sheet: &[u8], n: usize) -> Points {
+    /// The n points of a sheet whose questions are answered yes, with the rank of
+    /// each position.
+    pub fn new(sheet: &[u8], n: usize, ranks: &[u8; MOST]) -> Points {
         let mut points = Points {
             n,
             w: number(sheet, 5),
@@ -118,7 +142,7 @@ impl Points {
             position: [0; PLACES],
             weight: [0; PLACES],
             allowed: [false; PLACES],
-            rank: [n as u8; PLACES],
+            right_rank: [n as u8; PLACES],
             order: [0; MOST],
         };
         let (width, height) = (number(sheet, 1), number(sheet, 3));
@@ -135,8 +159,9 @@ impl Points {
             let (row, column) = (*key >> 18, *key >> 6 & 0xfff);
             points.row[i] = row as u16;
             points.column[i] = column as u16;
-            points.position[i] = (*key & 0x3f) as u8;
-            points.weight[i] = weight(*key & 0x3f);
+            let position = (*key & 0x3f) as usize % MOST;
+            points.position[i] = position as u8;
+            points.weight[i] = weight(ranks[position], position);
             points.allowed[i] =
                 points.column[i] + points.w <= width && points.row[i] + points.h <= height;
             *key = (column << 12 | row) << 6 | i as u32;
@@ -145,7 +170,7 @@ impl Points {
         for (k, key) in keys.iter().enumerate() {
             let i = (*key & 0x3f) as usize;
             points.order[k] = i as u8;
-            points.rank[i] = k as u8;
+            points.right_rank[i] = k as u8;
         }
         points
     }

@@ -4,9 +4,19 @@ use plates::Verdict;
 
 pub use plates::Desk;
 
-/// Makes a best plate; its length, or the number of the refusal.
-pub fn make(sheet: &[u8], output: &mut [u8], workspace: &mut [u16]) -> Result<usize, u8> {
-    plates::make(sheet, output, workspace).map_err(|refusal| refusal.number())
+/// Makes the best plate, with a rank list if one is lent; its length, or the
+/// number of the refusal.
+pub fn make(
+    sheet: &[u8],
+    ranks: Option<&[u8]>,
+    output: &mut [u8],
+    workspace: &mut [u16],
+) -> Result<usize, u8> {
+    let made = match ranks {
+        None => plates::make(sheet, output, workspace),
+        Some(ranks) => plates::make_ranked(sheet, ranks, output, workspace),
+    };
+    made.map_err(|refusal| refusal.number())
 }
 
 /// Whether a sheet is accepted.
@@ -30,11 +40,11 @@ pub fn load(sheet: &[u8], workspace: &mut [u16]) -> (Desk, bool) {
     (desk, answer.is_ok())
 }
 
-/// The desk after a mark, and the count and the shortfall of a valid list.
+/// The desk after a mark, and the sum and the shortfall of a valid list.
 pub fn mark(desk: Desk, list: &[u8]) -> (Desk, Option<(u16, u16)>) {
     let (desk, answer) = desk.mark(list);
     let valid = match answer.map(|marked| marked.verdict) {
-        Ok(Verdict::Valid { count, shortfall }) => Some((count, shortfall)),
+        Ok(Verdict::Valid { sum, shortfall }) => Some((sum, shortfall)),
         _ => None,
     };
     (desk, valid)

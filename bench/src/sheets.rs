@@ -1,4 +1,4 @@
-//! Seeded families of sheets.
+//! Seeded families of sheets, some with rank lists.
 
 /// How many points the sheets of a family have.
 pub const SIZES: [usize; 3] = [8, 16, 32];
@@ -133,6 +133,14 @@ fn staircase(random: &mut Random, n: usize, up_left: bool) -> Vec<u8> {
     sheet(random, map, label, points)
 }
 
+fn up_left(random: &mut Random, n: usize) -> Vec<u8> {
+    staircase(random, n, true)
+}
+
+fn up_right(random: &mut Random, n: usize) -> Vec<u8> {
+    staircase(random, n, false)
+}
+
 /// Labels of one size, on maps from crowded to wide.
 fn labels_of(random: &mut Random, n: usize, side: usize) -> Vec<u8> {
     let map = (random.within(n, 4096), random.within(n, 4096));
@@ -169,37 +177,59 @@ pub fn ridge_lines(random: &mut Random, n: usize) -> Vec<u8> {
     sheet(random, map, label, points)
 }
 
+/// A rank list of n points: any ranks from 1 to 9.
+pub fn any_ranks(random: &mut Random, n: usize) -> Vec<u8> {
+    let mut list = vec![n as u8];
+    list.extend((0..n).map(|_| random.within(1, 9) as u8));
+    list
+}
+
+/// A sheet, and the rank list lent beside it, if there is one.
+pub struct Case {
+    pub sheet: Vec<u8>,
+    pub ranks: Option<Vec<u8>>,
+}
+
 /// A named set of sheets with the same number of points.
 pub struct Family {
     pub name: &'static str,
     pub points: usize,
-    pub sheets: Vec<Vec<u8>>,
+    pub cases: Vec<Case>,
 }
 
-/// A sheet of n points.
+/// A sheet of n points, or a rank list of as many.
 type Draw = fn(&mut Random, usize) -> Vec<u8>;
 
-const FAMILIES: [(&str, Draw); 9] = [
-    ("dense", dense),
-    ("sparse", sparse),
-    ("one column", one_column),
-    ("staircase up left", |r, n| staircase(r, n, true)),
-    ("staircase up right", |r, n| staircase(r, n, false)),
-    ("labels of 1 by 1", |r, n| labels_of(r, n, 1)),
-    ("labels of 256 by 256", |r, n| labels_of(r, n, 256)),
-    ("random", any),
-    ("ridge lines", ridge_lines),
+/// A family's name, its seed, how its sheets are drawn, and how its rank lists
+/// are, if it has any.
+type Drawn = (&'static str, u64, Draw, Option<Draw>);
+
+const FAMILIES: [Drawn; 10] = [
+    ("dense", 1, dense, None),
+    ("sparse", 2, sparse, None),
+    ("one column", 3, one_column, None),
+    ("staircase up left", 4, up_left, None),
+    ("up left, ranked", 4, up_left, Some(any_ranks)),
+    ("staircase up right", 5, up_right, None),
+    ("labels of 1 by 1", 6, |r, n| labels_of(r, n, 1), None),
+    ("labels of 256 by 256", 7, |r, n| labels_of(r, n, 256), None),
+    ("random", 8, any, None),
+    ("ridge lines", 9, ridge_lines, None),
 ];
 
 /// All families with n points, of so many sheets each; the same at every call.
 pub fn families(n: usize, each: usize) -> impl Iterator<Item = Family> {
-    (1..).zip(FAMILIES).map(move |(seed, (name, draw))| {
-        let mut random = Random::new(seed);
-        let sheets = (0..each).map(|_| draw(&mut random, n)).collect();
+    FAMILIES.into_iter().map(move |(name, seed, sheet, ranks)| {
+        // Lists have numbers of their own, so that they change no sheet.
+        let [mut for_sheets, mut for_lists] = [seed, seed + 100].map(Random::new);
+        let case = |_| Case {
+            sheet: sheet(&mut for_sheets, n),
+            ranks: ranks.map(|list| list(&mut for_lists, n)),
+        };
         Family {
             name,
             points: n,
-            sheets,
+            cases: (0..each).map(case).collect(),
         }
     })
 }

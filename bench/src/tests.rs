@@ -2,10 +2,10 @@
 //! the listings against a text put together by `format!`. With the feature
 //! `proved` the proved library is one of them.
 
-use crate::plate::WORKSPACE;
+use crate::plate::{MOST, WORKSPACE};
 #[cfg(feature = "proved")]
 use crate::proved;
-use crate::sheets::{any, families, ridge_lines, sheet, Random, SIZES};
+use crate::sheets::{any, any_ranks, families, ridge_lines, sheet, Random, SIZES};
 use crate::{baseline, listing, masks};
 use std::ops::Range;
 
@@ -16,7 +16,7 @@ const LISTINGS: &[List] = &[
     proved::listing,
 ];
 
-type Make = fn(&[u8], &mut [u8], &mut [u16]) -> Result<usize, u8>;
+type Make = fn(&[u8], Option<&[u8]>, &mut [u8], &mut [u16]) -> Result<usize, u8>;
 const MAKERS: &[Make] = &[
     baseline::make,
     masks::make,
@@ -40,10 +40,10 @@ fn workspaces() -> [Vec<u16>; 4] {
 
 /// Checks what a call leaves in a lent output and workspace; the plate. Of all
 /// refusals 61 alone leaves the workspace zero.
-fn made(make: Make, sheet: &[u8], lent: &[u16]) -> Result<Vec<u8>, u8> {
+fn made(make: Make, sheet: &[u8], ranks: Option<&[u8]>, lent: &[u16]) -> Result<Vec<u8>, u8> {
     let mut output = vec![0xa5; 300];
     let mut workspace = lent.to_vec();
-    let answer = make(sheet, &mut output, &mut workspace);
+    let answer = make(sheet, ranks, &mut output, &mut workspace);
     let Ok(written) = answer else {
         assert!(output.iter().all(|&byte| byte == 0xa5));
         match answer {
@@ -99,19 +99,35 @@ fn valid(sheet: &[u8], inside: u32) -> bool {
         .all(|i| (!is_in(i) || on_map(points[i])) && (0..points.len()).all(|j| free(i, j)))
 }
 
-/// The best choices of a sheet, by trying all; or 20 or 61. No other question is
-/// asked.
-fn best_choices(sheet: &[u8]) -> Result<Vec<u32>, u8> {
+/// A rank list of n points of one rank.
+fn all_of(rank: u8, n: usize) -> Vec<u8> {
+    let mut list = vec![rank; 1 + n];
+    list[0] = n as u8;
+    list
+}
+
+/// The sum of a choice's ranks inside, by a rank list.
+fn sum(list: &[u8], choice: u32) -> u32 {
+    let rank = |(i, &rank): (usize, &u8)| (choice >> i & 1) * u32::from(rank);
+    list[1..].iter().enumerate().map(rank).sum()
+}
+
+/// The valid choices of a sheet, by trying all; or 20. No other question is asked.
+fn valid_choices(sheet: &[u8]) -> Result<Vec<u32>, u8> {
     let (_, _, mut points) = read(sheet);
     points.sort_unstable();
     if points.windows(2).any(|pair| pair[0] == pair[1]) {
         return Err(20);
     }
     let all = 0..1u32 << sheet[9];
-    let mut choices: Vec<u32> = all.filter(|&inside| valid(sheet, inside)).collect();
-    let counts = choices.iter().map(|inside| inside.count_ones());
-    let best = counts.max().ok_or(61)?;
-    choices.retain(|inside| inside.count_ones() == best);
+    Ok(all.filter(|&inside| valid(sheet, inside)).collect())
+}
+
+/// The best ones of all valid choices, by a rank list; or 61.
+fn best_of(mut choices: Vec<u32>, list: &[u8]) -> Result<Vec<u32>, u8> {
+    let sums = choices.iter().map(|&choice| sum(list, choice));
+    let best = sums.max().ok_or(61)?;
+    choices.retain(|&choice| sum(list, choice) == best);
     Ok(choices)
 }
 
@@ -168,7 +184,7 @@ const P1: [u8; 28] = [
 fn p1() {
     for make in MAKERS {
         for lent in workspaces() {
-            let plate = made(*make, &P1, &lent).unwrap();
+            let plate = made(*make, &P1, None, &lent).unwrap();
             assert_eq!(plate[28..], [2, 1, 2, 1, 0, 0]);
         }
     }
@@ -186,21 +202,39 @@ fn like_p1(points: &[(u8, u8)]) -> Vec<u8> {
     sheet
 }
 
-/// What every maker's plate of these points adds to the sheet, whatever the
-/// workspace, or the number of the refusal.
-fn added(points: &[(u8, u8)]) -> Result<Vec<u8>, u8> {
-    let sheet = like_p1(points);
+/// What every maker leaves of a sheet and a rank list, whatever the workspace: the
+/// plate, or the number of the refusal.
+fn by_all(sheet: &[u8], ranks: Option<&[u8]>) -> Result<Vec<u8>, u8> {
     let workspaces = workspaces();
-    let each = |make: &Make| workspaces.each_ref().map(|lent| made(*make, &sheet, lent));
+    let each = |make: &Make| {
+        let each = workspaces.each_ref();
+        each.map(|lent| made(*make, sheet, ranks, lent))
+    };
     let plates: Vec<_> = MAKERS.iter().flat_map(each).collect();
     assert!(plates.iter().all(|plate| *plate == plates[0]));
-    plates[0].clone().map(|plate| plate[sheet.len()..].to_vec())
+    plates[0].clone()
 }
 
-/// Every maker's plate of a sheet is this one.
-fn assert_plates(sheet: &[u8], plate: &[u8]) {
+/// What the plate of these points adds to the sheet, or the number of the refusal.
+fn added(points: &[(u8, u8)]) -> Result<Vec<u8>, u8> {
+    let sheet = like_p1(points);
+    by_all(&sheet, None).map(|plate| plate[sheet.len()..].to_vec())
+}
+
+/// The inside positions of the plate of these points with these ranks.
+fn inside<const N: usize>(points: [(u8, u8); N], ranks: [u8; N]) -> Vec<u8> {
+    let sheet = like_p1(&points);
+    let list = [&[N as u8][..], &ranks].concat();
+    let plate = by_all(&sheet, Some(&list)).unwrap();
+    let sections = &plate[sheet.len()..];
+    sections[1..=usize::from(sections[0])].to_vec()
+}
+
+/// Every maker's plate of a sheet, with a rank list if one is given, is this one.
+fn assert_plates(sheet: &[u8], ranks: Option<&[u8]>, plate: &[u8]) {
     for make in MAKERS {
-        assert_eq!(made(*make, sheet, &[0; WORKSPACE]), Ok(plate.to_vec()));
+        let made = made(*make, sheet, ranks, &[0; WORKSPACE]);
+        assert_eq!(made, Ok(plate.to_vec()));
     }
 }
 
@@ -237,13 +271,45 @@ fn a_tie_of_two() {
     assert_eq!(added(&[(3, 4), (4, 3)]), Ok(vec![1, 0, 1, 1, 0]));
 }
 
+/// Document 02 (e) on the same tie: the greater rank is inside, and of equal ranks
+/// the first.
+#[test]
+fn a_tie_with_ranks() {
+    for (ranks, position) in [([1, 2], 1), ([2, 1], 0), ([8, 9], 1), ([5, 5], 0)] {
+        assert_eq!(inside([(4, 3), (3, 4)], ranks), [position]);
+        assert_eq!(inside([(3, 4), (4, 3)], ranks), [position]);
+    }
+}
+
+/// Three points up to the left, of which just neighbours can't both be inside: one
+/// of a great rank is worth more than two, and with equal sums the first point
+/// decides.
+#[test]
+fn one_for_two() {
+    let [a, b, c] = [(9, 1), (8, 2), (7, 3)];
+    assert_eq!(inside([a, b, c], [1, 1, 1]), [0, 2]);
+    assert_eq!(inside([a, b, c], [1, 3, 1]), [1]);
+    assert_eq!(inside([a, b, c], [4, 9, 4]), [1]);
+    assert_eq!(inside([a, b, c], [4, 9, 5]), [0, 2]);
+    assert_eq!(inside([a, b, c], [5, 9, 5]), [0, 2]);
+    assert_eq!(inside([b, a, c], [9, 4, 5]), [0]);
+    assert_eq!(inside([b, a, c], [9, 5, 5]), [1, 2]);
+}
+
+/// P1's first point can't be inside, whatever its rank.
+#[test]
+fn ranks_allow_nothing_more() {
+    assert_eq!(inside([(2, 3), (4, 4), (10, 7)], [9, 1, 1]), [1, 2]);
+}
+
 /// Six points up to the left, a to f, of which just neighbours can't both be
 /// inside. The best choices are ace, acf, adf and bdf, and the sheet's order says
 /// which is preferred.
 #[test]
 fn a_tie_of_four() {
     let [a, b, c, d, e, f] = [(9, 1), (8, 2), (7, 3), (6, 4), (5, 5), (4, 6)];
-    let best = best_choices(&like_p1(&[a, b, c, d, e, f]));
+    let valid = valid_choices(&like_p1(&[a, b, c, d, e, f])).unwrap();
+    let best = best_of(valid, &all_of(1, 6));
     assert_eq!(best, Ok(vec![0b010101, 0b100101, 0b101001, 0b101010]));
 
     let ace = added(&[a, b, c, d, e, f]);
@@ -278,7 +344,7 @@ fn sixteen_ties() {
         plate.extend((0..16).map(|k| 2 * k));
         plate.push(16);
         plate.extend((0..16).flat_map(|k| [2 * k + 1, 0]));
-        assert_plates(&bytes, &plate);
+        assert_plates(&bytes, None, &plate);
     }
 }
 
@@ -301,7 +367,32 @@ fn staircases() {
         let bytes = sheet(&mut random, (35, 33), (4, 2), points);
         let choice = |k: i32| choice_by_row(&bytes, |row| (row % 2 == 0) == (row / 2 < k));
         let best: Vec<u32> = (0..=pairs as i32).map(choice).collect();
-        assert_plates(&bytes, &preferred_plate(&bytes, &best));
+        assert_plates(&bytes, None, &preferred_plate(&bytes, &best));
+    }
+}
+
+/// Such points with ranks, found from the lowest row up: the best of the rows up to
+/// one either lacks its point, or has it and lacks the one below. Of two choices
+/// the preferred one is greater if the first position has the highest bit.
+#[test]
+fn ranked_staircases() {
+    let mut random = Random::new(33);
+    for round in 0..800 {
+        let n = 1 + round % 32;
+        let points = (0..n).map(|row| (31 - row, row)).collect();
+        let bytes = sheet(&mut random, (35, 33), (4, 2), points);
+        let list = drawn_ranks(&mut random, n);
+        let (_, _, points) = read(&bytes);
+        // Sum and choice, with the rows below, and with those but the last one.
+        let (mut all, mut all_but_one) = ((0, 0u32), (0, 0));
+        for row in 0..n as i32 {
+            let i = points.iter().position(|point| point.1 == row).unwrap();
+            let (sum, choice) = all_but_one;
+            let with = (sum + u32::from(list[1 + i]), choice | 1 << (31 - i));
+            (all_but_one, all) = (all, all.max(with));
+        }
+        let choice = all.1.reverse_bits();
+        assert_plates(&bytes, Some(&list), &plate_of(&bytes, choice));
     }
 }
 
@@ -348,7 +439,7 @@ fn listings() {
     for round in 0..4000 {
         let draw = [any, tiny, ridge_lines][round % 3];
         let bytes = draw(&mut random, round / 3 % 33);
-        let plate = made(baseline::make, &bytes, &zeros).unwrap();
+        let plate = made(baseline::make, &bytes, None, &zeros).unwrap();
         assert_lists(&plate, &listing_of(&plate));
     }
 }
@@ -417,16 +508,56 @@ fn leaning(random: &mut Random, n: usize) -> Vec<u8> {
     sheet(random, map, label, points)
 }
 
+/// Points by and large up to the left, crowded, with room for each label: many
+/// choices are valid, and ranks often decide.
+fn climbing(random: &mut Random, n: usize) -> Vec<u8> {
+    let label = (random.within(2, 8), random.within(2, 6));
+    let map = (2 * n + 4 + label.0, 2 * n + label.1);
+    let astray = random.within(0, 4);
+    let mut row = 0;
+    let points = (0..n)
+        .map(|k| {
+            row += random.within(1, 2);
+            (2 * (n - k) + random.within(0, astray), row)
+        })
+        .collect();
+    sheet(random, map, label, points)
+}
+
+/// A rank list of n points: any ranks; or two neighbouring ones, which often give
+/// equal sums; or nines among ones.
+fn drawn_ranks(random: &mut Random, n: usize) -> Vec<u8> {
+    let low = random.within(1, 8) as u8;
+    let (low, high) = match random.within(0, 2) {
+        0 => return any_ranks(random, n),
+        1 => (low, low + 1),
+        _ => (1, 9),
+    };
+    let mut list = all_of(low, n);
+    for rank in &mut list[1..] {
+        if random.within(0, 2) == 0 {
+            *rank = high;
+        }
+    }
+    list
+}
+
+/// A sheet of few points, of all sorts by turns.
+fn small(random: &mut Random, round: usize) -> Vec<u8> {
+    let draw = [any, tiny, crowded, ridge_lines, leaning][round % 5];
+    let n = if round % 25 < 5 { 10 } else { round / 5 % 8 };
+    draw(random, n)
+}
+
 #[test]
 fn preferred_of_all_choices() {
     let mut random = Random::new(2021);
     let workspaces = workspaces();
     let (mut in_rows, mut tied, mut without, mut on_pixels) = (0, 0, 0, 0);
     for round in 0..10000 {
-        let draw = [any, tiny, crowded, ridge_lines, leaning][round % 5];
-        let n = if round % 25 < 5 { 10 } else { round / 5 % 8 };
-        let bytes = draw(&mut random, n);
-        let best = best_choices(&bytes);
+        let bytes = small(&mut random, round);
+        let ones = all_of(1, bytes[9].into());
+        let best = valid_choices(&bytes).and_then(|valid| best_of(valid, &ones));
         match &best {
             Ok(best) => {
                 in_rows += usize::from(shares_rows(&bytes));
@@ -438,25 +569,138 @@ fn preferred_of_all_choices() {
         let expected = best.map(|best| preferred_plate(&bytes, &best));
         for make in MAKERS {
             let lent = &workspaces[random.within(0, 3)];
-            assert_eq!(made(*make, &bytes, lent), expected);
+            assert_eq!(made(*make, &bytes, None, lent), expected);
         }
     }
     assert!(in_rows > 1000 && tied > 500 && without > 200 && on_pixels > 200);
+}
+
+/// With ranks the best choice can have fewer points inside than another has, or as
+/// many and not be the preferred one of those.
+#[test]
+fn preferred_of_all_choices_by_ranks() {
+    let mut random = Random::new(2022);
+    let workspaces = workspaces();
+    let (mut tied, mut fewer, mut as_many, mut without) = (0, 0, 0, 0);
+    for round in 0..10000 {
+        let bytes = match round % 2 {
+            0 => small(&mut random, round / 2),
+            _ => climbing(&mut random, round / 2 % 11),
+        };
+        let n = bytes[9].into();
+        let (list, ones) = (drawn_ranks(&mut random, n), all_of(1, n));
+        let valid = valid_choices(&bytes);
+        let best = valid.clone().and_then(|valid| best_of(valid, &list));
+        let expected = best.clone().map(|best| preferred_plate(&bytes, &best));
+        for make in MAKERS {
+            let lent = &workspaces[random.within(0, 3)];
+            assert_eq!(made(*make, &bytes, Some(&list), lent), expected);
+        }
+        without += usize::from(expected == Err(61));
+        let most = valid.and_then(|valid| best_of(valid, &ones));
+        if let (Ok(best), Ok(most), Ok(plate)) = (best, most, expected) {
+            tied += usize::from(best.len() > 1);
+            if !most.contains(&choice_of(&bytes, &plate)) {
+                fewer += 1;
+            } else if plate != preferred_plate(&bytes, &most) {
+                as_many += 1;
+            }
+        }
+    }
+    assert!(tied > 500 && fewer > 100 && as_many > 500 && without > 200);
+}
+
+/// At 32 points the makers are held against each other. The plate made with ranks
+/// has no less a sum than that made without, and no greater a count.
+#[test]
+fn ranks_of_the_most_points() {
+    let mut random = Random::new(2023);
+    let workspaces = workspaces();
+    let (mut plates, mut decided, mut fewer) = (0, 0, 0);
+    for round in 0..2000 {
+        let draw = [any, tiny, climbing, ridge_lines, leaning][round % 5];
+        let bytes = draw(&mut random, MOST);
+        let list = drawn_ranks(&mut random, MOST);
+        let by = |make: Make, ranks| made(make, &bytes, ranks, &workspaces[round % 4]);
+        let ranked = by(MAKERS[0], Some(&list));
+        for make in MAKERS {
+            assert_eq!(by(*make, Some(&list)), ranked);
+        }
+        let unranked = by(MAKERS[0], None);
+        assert_eq!(ranked.clone().err(), unranked.clone().err());
+        if let (Ok(ranked), Ok(unranked)) = (ranked, unranked) {
+            let choice = choice_of(&bytes, &ranked);
+            assert!(valid(&bytes, choice));
+            assert_eq!(ranked, plate_of(&bytes, choice));
+            let other = choice_of(&bytes, &unranked);
+            assert!(sum(&list, choice) >= sum(&list, other));
+            assert!(choice.count_ones() <= other.count_ones());
+            plates += 1;
+            decided += usize::from(choice != other);
+            fewer += usize::from(choice.count_ones() < other.count_ones());
+        }
+    }
+    assert!(plates > 1000 && decided > 300 && fewer > 100);
+}
+
+/// With equal ranks, ones or others, the plate is that without a list.
+#[test]
+fn equal_ranks() {
+    let mut random = Random::new(2024);
+    let workspaces = workspaces();
+    let mut refused = 0;
+    for round in 0..2000 {
+        let draw = [any, tiny, crowded, ridge_lines, leaning, climbing][round % 6];
+        let n = random.within(0, MOST);
+        let bytes = draw(&mut random, n);
+        for make in MAKERS {
+            let lent = &workspaces[random.within(0, 3)];
+            let plate = made(*make, &bytes, None, lent);
+            refused += usize::from(plate.is_err());
+            for rank in [1, random.within(2, 9) as u8] {
+                let list = all_of(rank, n);
+                assert_eq!(made(*make, &bytes, Some(&list), lent), plate);
+            }
+        }
+    }
+    assert!(refused > 100);
 }
 
 #[test]
 fn families_are_made() {
     let [zeros, ..] = workspaces();
     for family in SIZES.into_iter().flat_map(|n| families(n, 40)) {
-        for bytes in &family.sheets {
+        let mut decided = 0;
+        for case in &family.cases {
+            let (bytes, ranks) = (&case.sheet, case.ranks.as_deref());
             assert_eq!(usize::from(bytes[9]), family.points);
             assert_eq!(shares_rows(bytes), family.name == "ridge lines");
-            let plate = made(MAKERS[0], bytes, &zeros).unwrap();
+            assert_eq!(ranks.is_some(), family.name == "up left, ranked");
+            let plate = made(MAKERS[0], bytes, ranks, &zeros).unwrap();
             let choice = choice_of(bytes, &plate);
             assert!(valid(bytes, choice));
             assert_eq!(plate, plate_of(bytes, choice));
-            assert_plates(bytes, &plate);
+            assert_plates(bytes, ranks, &plate);
+            let unranked = made(MAKERS[0], bytes, None, &zeros);
+            decided += usize::from(unranked != Ok(plate));
         }
+        // Ranks decide most of the sheets that have them.
+        let most = family.cases.len() / 2;
+        assert_eq!(decided > most, family.name == "up left, ranked");
+    }
+}
+
+/// The ranked family has the sheets of the one before it.
+#[test]
+fn the_same_sheets_with_ranks() {
+    for n in SIZES {
+        let [plain, ranked] = ["staircase up left", "up left, ranked"].map(|name| {
+            let mut families = families(n, 40);
+            let family = families.find(|family| family.name == name).unwrap();
+            let sheets = family.cases.into_iter().map(|case| case.sheet);
+            sheets.collect::<Vec<_>>()
+        });
+        assert_eq!(plain, ranked);
     }
 }
 
@@ -464,9 +708,11 @@ fn families_are_made() {
 fn a_workspace_may_hold_anything() {
     let workspaces = workspaces();
     for family in SIZES.into_iter().flat_map(|n| families(n, 10)) {
-        for bytes in &family.sheets {
+        for case in &family.cases {
             for make in MAKERS {
-                let plates = workspaces.each_ref().map(|lent| made(*make, bytes, lent));
+                let each = workspaces.each_ref();
+                let ranks = case.ranks.as_deref();
+                let plates = each.map(|lent| made(*make, &case.sheet, ranks, lent));
                 assert!(plates[0].is_ok());
                 assert!(plates.iter().all(|plate| *plate == plates[0]));
             }
@@ -480,7 +726,8 @@ fn refusals() {
     let workspaces = workspaces();
     for make in MAKERS {
         let asked = |bytes: &[u8]| {
-            let answers = workspaces.each_ref().map(|lent| made(*make, bytes, lent));
+            let each = workspaces.each_ref();
+            let answers = each.map(|lent| made(*make, bytes, None, lent));
             answers.map(|answer| answer.err())
         };
         let changed = |at: usize, value: u8| {
@@ -507,19 +754,83 @@ fn refusals() {
     }
 }
 
+/// Document 02 (e): 62 if the list isn't a count byte n and n bytes, and then 63
+/// for a rank outside 1 to 9; both before 61.
+#[test]
+fn list_refusals() {
+    let without = like_p1(&[(0, 3), (2, 3), (4, 3)]);
+    for (sheet, refusal) in [(&P1[..], None), (&without, Some(61))] {
+        let asked = |list: &[u8]| by_all(sheet, Some(list)).err();
+        for count in [0, 1, 2, 3, 4, 5, 32, 255] {
+            for length in 0..=5 {
+                let list = [count, 1, 1, 1, 1];
+                let whole = count == 3 && length == 4;
+                let expected = if whole { refusal } else { Some(62) };
+                assert_eq!(asked(&list[..length]), expected);
+            }
+        }
+        for list in [&[3, 0, 10][..], &[3, 0, 1, 1, 1], &[2, 1, 10, 1]] {
+            assert_eq!(asked(list), Some(62));
+        }
+        for rank in (0..=12).chain([128, 255]) {
+            let allowed = (1..=9).contains(&rank);
+            let expected = if allowed { refusal } else { Some(63) };
+            for list in [[3, rank, 1, 1], [3, 9, rank, 1], [3, 1, 9, rank]] {
+                assert_eq!(asked(&list), expected);
+            }
+        }
+        assert_eq!(asked(&[3, 0, 10, 255]), Some(63));
+    }
+}
+
+/// With no point the list is a count byte alone.
+#[test]
+fn lists_of_no_point() {
+    let none = like_p1(&[]);
+    let asked = |list: &[u8]| by_all(&none, Some(list)).err();
+    assert_eq!(asked(&[0]), None);
+    for list in [&[][..], &[1], &[0, 1], &[1, 1]] {
+        assert_eq!(asked(list), Some(62));
+    }
+}
+
+/// The sheet's questions come before those of the list.
+#[test]
+fn sheets_before_lists() {
+    let on_one_pixel = like_p1(&[(2, 3), (2, 4), (2, 3)]);
+    for list in [&[][..], &[3, 0, 1, 1], &[3, 1, 1, 1]] {
+        assert_eq!(by_all(&on_one_pixel, Some(list)), Err(20));
+        assert_eq!(by_all(&P1[..27], Some(list)), Err(16));
+    }
+}
+
 #[test]
 fn buffers_too_small() {
     let good = any(&mut Random::new(7), 3);
     let without = like_p1(&[(0, 3), (2, 3), (4, 3)]);
+    let (no_list, bad_rank, list) = (&[][..], &[3, 9, 9, 0][..], &[3, 1, 5, 9][..]);
+    let lent = [
+        (&good, None, None),
+        (&good, Some(no_list), Some(62)),
+        (&good, Some(bad_rank), Some(63)),
+        (&good, Some(list), None),
+        (&without, None, Some(61)),
+        (&without, Some(no_list), Some(62)),
+        (&without, Some(bad_rank), Some(63)),
+        (&without, Some(list), Some(61)),
+    ];
     for make in MAKERS {
-        for (sheet, refusal) in [(&good, None), (&without, Some(61))] {
+        for (sheet, ranks, refusal) in lent {
             let mut workspace = vec![7; WORKSPACE];
             let mut output = [0xa5; 36];
-            assert_eq!(make(sheet, &mut output[1..], &mut workspace), Err(21));
-            assert_eq!(make(sheet, &mut output, &mut workspace[1..]), Err(22));
+            let small = make(sheet, ranks, &mut output[1..], &mut workspace);
+            assert_eq!(small, Err(21));
+            let small = make(sheet, ranks, &mut output, &mut workspace[1..]);
+            assert_eq!(small, Err(22));
             assert_eq!(output, [0xa5; 36]);
             assert_eq!(workspace, [7; WORKSPACE]);
-            assert_eq!(make(sheet, &mut output, &mut workspace).err(), refusal);
+            let enough = make(sheet, ranks, &mut output, &mut workspace);
+            assert_eq!(enough.err(), refusal);
         }
     }
 }
