@@ -1,6 +1,7 @@
 /* Document 01's P1 and its desk example, document 02 (a)'s point whose label leaves
-   the map, and document 02 (c)'s shared rows. `bindings/run` builds and runs it, and
-   compares what it prints with bindings/expected. */
+   the map, document 02 (c)'s shared rows, and document 01's tie without ranks and
+   with them, document 02 (e). `bindings/run` builds and runs it, and compares what
+   it prints with bindings/expected. */
 #include "plates.h"
 
 #include <stdio.h>
@@ -34,6 +35,17 @@ static const uint8_t CROWDED[28] = {
     0x13, 0x00, 0x04, 0x00, 0x03, 0x00,
 };
 
+/* Map 20 by 12, label 4 by 2, points 1 at (4,3) and 2 at (3,4): one of them can be
+   inside, and either can. */
+static const uint8_t PAIR[22] = {
+    0x01, 0x14, 0x00, 0x0c, 0x00, 0x04, 0x00, 0x02, 0x00, 0x02,
+    0x01, 0x00, 0x04, 0x00, 0x03, 0x00,
+    0x02, 0x00, 0x03, 0x00, 0x04, 0x00,
+};
+
+/* Its rank list: 1 is a relay and has rank 1, 2 is a doctor and has rank 2. */
+static const uint8_t RANKS[3] = {0x02, 0x01, 0x02};
+
 static uint16_t workspace[PLATE_WORKSPACE];
 
 static void print_bytes(const char *name, const uint8_t *bytes, size_t count)
@@ -49,6 +61,16 @@ static struct desk load(struct desk desk, const uint8_t *sheet, size_t sheet_len
 {
     struct desk_load_result loaded =
         desk_load(desk, sheet, sheet_len, workspace, PLATE_WORKSPACE);
+    printf("load %u\n", (unsigned)loaded.number);
+    return loaded.desk;
+}
+
+/* The same with a rank list. */
+static struct desk load_ranked(struct desk desk, const uint8_t *sheet, size_t sheet_len,
+                               const uint8_t *ranks, size_t ranks_len)
+{
+    struct desk_load_result loaded = desk_load_ranked(
+        desk, sheet, sheet_len, ranks, ranks_len, workspace, PLATE_WORKSPACE);
     printf("load %u\n", (unsigned)loaded.number);
     return loaded.desk;
 }
@@ -73,7 +95,7 @@ static struct desk mark(struct desk desk, const uint8_t *list, size_t list_len)
         printf("refused %u\n", (unsigned)marked.number);
     else if (marked.verdict == DESK_VALID)
         printf("%u valid %u %u\n", (unsigned)marked.list_number,
-               (unsigned)marked.count, (unsigned)marked.shortfall);
+               (unsigned)marked.sum, (unsigned)marked.shortfall);
     else
         printf("%u clash %u %u %s\n", (unsigned)marked.list_number,
                (unsigned)marked.first, (unsigned)marked.second,
@@ -106,7 +128,7 @@ int main(void)
     fwrite(text, 1, plate_listing(output, made.written, text, sizeof text), stdout);
 
     static const uint8_t best[] = {2, 1, 2}, first[] = {1, 0}, none[] = {0};
-    static const uint8_t both[] = {2, 0, 1};
+    static const uint8_t both[] = {2, 0, 1}, second[] = {1, 1};
     struct desk desk = desk_new();
     desk = mark(desk, best, sizeof best);
     desk = load(desk, P1, sizeof P1);
@@ -119,6 +141,20 @@ int main(void)
     desk = load(desk, RIDGE, sizeof RIDGE);
     desk = mark(desk, none, sizeof none);
     desk = load(desk, CROWDED, sizeof CROWDED); /* refused: RIDGE stays */
-    mark(desk, both, sizeof both);
+    desk = mark(desk, both, sizeof both);
+
+    /* The relay's label is inside without ranks, the doctor's with them. */
+    made = plate_make(PAIR, sizeof PAIR, output, sizeof output, workspace, PLATE_WORKSPACE);
+    print_bytes("plate", output, made.written);
+    made = plate_make_ranked(PAIR, sizeof PAIR, RANKS, sizeof RANKS, output, sizeof output,
+                             workspace, PLATE_WORKSPACE);
+    print_bytes("plate", output, made.written);
+    desk = load(desk, PAIR, sizeof PAIR);
+    desk = mark(desk, first, sizeof first);
+    desk = load_ranked(desk, PAIR, sizeof PAIR, RANKS, sizeof RANKS);
+    desk = mark(desk, first, sizeof first);
+    desk = mark(desk, second, sizeof second);
+    desk = load_ranked(desk, P1, sizeof P1, RANKS, sizeof RANKS); /* refused: PAIR stays */
+    mark(desk, second, sizeof second);
     return 0;
 }

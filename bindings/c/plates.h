@@ -14,6 +14,13 @@
    overlaps no other. A slice of count 0 may have any pointer, NULL too: nothing
    is read or written there. Nothing else is asked: any bytes at all may be lent.
 
+   Ranks. A rank list may be lent beside the sheet: a count byte n, the sheet's
+   point count, then the rank of each point, in the sheet's order, from 1 to 9.
+   plate_make_ranked and desk_load_ranked are lent a list. plate_make and desk_load
+   are lent no list, and every rank is 1 then. A list that is lent and empty (count
+   0, NULL too) isn't the same as no list: it has no count byte, and gets 62. The
+   list of a sheet without points is the one byte 0.
+
    Refusals. Their numbers are those of the questions in documents 01 and 02; the
    first question answered no ends a call. A refused call writes nothing, but for
    61, which leaves the whole workspace zero.
@@ -40,6 +47,9 @@ extern "C" {
 /* The library's counts have 64 bits. */
 PLATES_SAME(sizeof(size_t), 8);
 
+/* The most points of a sheet. */
+#define PLATE_POINTS 32
+
 /* The most bytes of a sheet: 10 + 6n with n = 32 points. */
 #define PLATE_SHEET 202
 
@@ -57,24 +67,36 @@ PLATES_SAME(sizeof(size_t), 8);
    is accepted. */
 uint32_t plate_check_sheet(const uint8_t *sheet, size_t sheet_len);
 
-/* Making. The number is that of the first no (11 to 22, 61), 0 if a plate is
-   made; written is the plate's length, 0 on a refusal. Bytes of the output past
-   the plate are untouched, and the whole workspace is zero afterwards. 61 says
-   that no choice of the sheet is valid.
+/* Making. The number is that of the first no, 0 if a plate is made; written is
+   the plate's length, 0 on a refusal. Bytes of the output past the plate are
+   untouched, and the whole workspace is zero afterwards.
 
-   A sheet that has a plate has one best plate, and that is made. It has the best
-   count inside. Of several choices with as many, go through the points in the
+   The numbers, in the order of their questions, are 11 to 22; with a rank list 62
+   and 63; then 61. 62 says that the list's count byte is missing or isn't n, or
+   that its length isn't 1 + n; 63 that a rank isn't 1 to 9; 61 that no choice of
+   the sheet is valid.
+
+   A sheet that has a plate has one best plate with these ranks, and that is made.
+   It has the best sum: no valid choice has a greater sum of the ranks of its
+   inside points. Of several choices with that sum, go through the points in the
    sheet's order: at the first point where two of them differ, the one with it
-   inside is preferred. */
+   inside is preferred. Without a list the sum is the inside count, and as many
+   points are inside as can be. */
 struct plate_make_result {
     uint32_t number;
     uint32_t spare; /* 0 */
     uint64_t written;
 };
 PLATES_SAME(sizeof(struct plate_make_result), 4 + 4 + 8);
+/* No list is lent: every rank is 1, and the number is never 62 or 63. */
 struct plate_make_result plate_make(const uint8_t *sheet, size_t sheet_len,
                                     uint8_t *output, size_t output_len,
                                     uint16_t *workspace, size_t workspace_len);
+/* A rank list is lent. */
+struct plate_make_result plate_make_ranked(const uint8_t *sheet, size_t sheet_len,
+                                           const uint8_t *ranks, size_t ranks_len,
+                                           uint8_t *output, size_t output_len,
+                                           uint16_t *workspace, size_t workspace_len);
 
 /* Reading. The number is that of the first no (11 to 20, 41 to 44), 0 if the
    plate is accepted. The inside list is inside_count bytes of the plate from
@@ -109,20 +131,27 @@ size_t plate_listing(const uint8_t *plate, size_t plate_len,
    two calls are given gives both the same number.
 
    The fields may be read. With a desk that no calls from desk_new on handed back
-   a call still ends, but nothing is promised of its best and its numbers. */
+   a call still ends, but nothing is promised of its best, its sums and its
+   numbers. */
 
 /* What a load puts into the desk. */
 struct desk_held {
-    uint8_t sheet[PLATE_SHEET]; /* the loaded sheet, then zeros; zeros if none is
-                                   loaded */
-    bool loaded;                /* whether a sheet is loaded; its byte is 0 or 1,
-                                   and a desk with any other must not be handed to
-                                   a call */
-    uint8_t spare;              /* 0; no call asks for it, and it goes along until
-                                   a load puts 0 there */
-    uint16_t best;              /* the best count of the loaded sheet, else 0 */
+    uint8_t sheet[PLATE_SHEET];  /* the loaded sheet, then zeros; zeros if none is
+                                    loaded */
+    uint8_t ranks[PLATE_POINTS]; /* the rank of each point of the loaded sheet, by
+                                    position, then zeros: 1 for each point if its
+                                    load was lent no list; zeros if no sheet is
+                                    loaded */
+    bool loaded;                 /* whether a sheet is loaded; its byte is 0 or 1,
+                                    and a desk with any other must not be handed
+                                    to a call */
+    uint8_t spare;               /* 0; no call asks for it, and it goes along until
+                                    a load puts 0 there */
+    uint16_t best;               /* the best sum of the loaded sheet with these
+                                    ranks, up to 288; its best count if its load
+                                    was lent no list; 0 if no sheet is loaded */
 };
-PLATES_SAME(sizeof(struct desk_held), PLATE_SHEET + 1 + 1 + 2);
+PLATES_SAME(sizeof(struct desk_held), PLATE_SHEET + PLATE_POINTS + 1 + 1 + 2);
 struct desk {
     struct desk_held held;
     uint16_t last; /* the number of the list marked last, 0 before the first */
@@ -130,17 +159,27 @@ struct desk {
 PLATES_SAME(sizeof(struct desk), sizeof(struct desk_held) + 2);
 struct desk desk_new(void);
 
-/* A load. The number is that of the first no (11 to 20, 22, 61), 0 if the sheet
-   is loaded; then the whole workspace is zero. 61 says that no choice of the sheet
-   is valid. */
+/* A load. The number is that of the first no, 0 if the sheet is loaded; then the
+   whole workspace is zero. The desk keeps the sheet, the ranks of its points and
+   its best sum with them until the next load that isn't refused; the last number
+   stays.
+
+   The numbers, in the order of their questions, are 11 to 20 and 22; with a rank
+   list 62 and 63; then 61. 61 to 63 say what they say of a making. */
 struct desk_load_result {
     struct desk desk;
     uint32_t number;
 };
 PLATES_SAME(sizeof(struct desk_load_result), sizeof(struct desk) + 4);
+/* No list is lent: every rank is 1, and the number is never 62 or 63. */
 struct desk_load_result desk_load(struct desk desk,
                                   const uint8_t *sheet, size_t sheet_len,
                                   uint16_t *workspace, size_t workspace_len);
+/* A rank list is lent. */
+struct desk_load_result desk_load_ranked(struct desk desk,
+                                         const uint8_t *sheet, size_t sheet_len,
+                                         const uint8_t *ranks, size_t ranks_len,
+                                         uint16_t *workspace, size_t workspace_len);
 
 /* The verdicts of a mark. */
 #define DESK_VALID 1
@@ -150,16 +189,20 @@ struct desk_load_result desk_load(struct desk desk,
 #define DESK_CLASH_TWO_LEADERS 5      /* two leaders in one row */
 
 /* A mark. The number is that of the first no (51, 31 to 33, 52), 0 if the list
-   is marked. Then list_number is the list's number; a valid list has its count
-   and shortfall set, a clash its first and second position, the first below the
+   is marked. Then list_number is the list's number; a valid list has its sum and
+   shortfall set, a clash its first and second position, the first below the
    second, or both the same for a label that leaves the map. Every other field is
-   0; on a refusal all but the desk and the number are 0. */
+   0; on a refusal all but the desk and the number are 0.
+
+   The sum is that of the ranks of the list's positions, and the shortfall is the
+   desk's best sum less that. Both are at most 288, from 32 points of rank 9. If
+   the load was lent no list, the sum is the count of the list's positions. */
 struct desk_mark_result {
     struct desk desk;
     uint32_t number;
     uint32_t list_number;
     uint32_t verdict;
-    uint32_t count;
+    uint32_t sum;
     uint32_t shortfall;
     uint32_t first;
     uint32_t second;

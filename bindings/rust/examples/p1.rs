@@ -1,8 +1,10 @@
 //! Document 01's P1 and its desk example, document 02 (a)'s point whose label leaves
-//! the map, and document 02 (c)'s shared rows. `bindings/run` builds and runs it, and
-//! compares what it prints with bindings/expected.
+//! the map, document 02 (c)'s shared rows, and document 01's tie without ranks and
+//! with them, document 02 (e). `bindings/run` builds and runs it, and compares what
+//! it prints with bindings/expected.
 
-use plates::{check_sheet, listing, make, read_plate, ClashKind, Desk, Refusal, Verdict};
+use plates::{check_sheet, listing, make, make_ranked, read_plate};
+use plates::{ClashKind, Desk, Refusal, Verdict};
 use plates::{LISTING, OUTPUT, WORKSPACE};
 
 /// Map 20 by 10, label 4 by 2, points 17 at (2,3), 18 at (4,4), 19 at (10,7).
@@ -34,6 +36,17 @@ const CROWDED: [u8; 28] = [
     0x13, 0x00, 0x04, 0x00, 0x03, 0x00,
 ];
 
+/// Map 20 by 12, label 4 by 2, points 1 at (4,3) and 2 at (3,4): one of them can be
+/// inside, and either can.
+const PAIR: [u8; 22] = [
+    0x01, 0x14, 0x00, 0x0c, 0x00, 0x04, 0x00, 0x02, 0x00, 0x02, // the frame, n
+    0x01, 0x00, 0x04, 0x00, 0x03, 0x00, //
+    0x02, 0x00, 0x03, 0x00, 0x04, 0x00,
+];
+
+/// Its rank list: 1 is a relay and has rank 1, 2 is a doctor and has rank 2.
+const RANKS: [u8; 3] = [0x02, 0x01, 0x02];
+
 fn main() -> Result<(), Refusal> {
     println!("check {}", number(check_sheet(&P1)));
     println!("check {}", number(check_sheet(&P1[..27])));
@@ -57,7 +70,20 @@ fn main() -> Result<(), Refusal> {
     let desk = load(desk, &RIDGE, &mut workspace);
     let desk = mark(desk, &[0]);
     let desk = load(desk, &CROWDED, &mut workspace); // refused: RIDGE stays
-    mark(desk, &[2, 0, 1]);
+    let desk = mark(desk, &[2, 0, 1]);
+
+    // The relay's label is inside without ranks, the doctor's with them.
+    let written = make(&PAIR, &mut output, &mut workspace)?;
+    print_bytes("plate", &output[..written]);
+    let written = make_ranked(&PAIR, &RANKS, &mut output, &mut workspace)?;
+    print_bytes("plate", &output[..written]);
+    let desk = load(desk, &PAIR, &mut workspace);
+    let desk = mark(desk, &[1, 0]);
+    let desk = load_ranked(desk, &PAIR, &RANKS, &mut workspace);
+    let desk = mark(desk, &[1, 0]);
+    let desk = mark(desk, &[1, 1]);
+    let desk = load_ranked(desk, &P1, &RANKS, &mut workspace); // refused: PAIR stays
+    mark(desk, &[1, 1]);
     Ok(())
 }
 
@@ -78,13 +104,20 @@ fn load(desk: Desk, sheet: &[u8], workspace: &mut [u16]) -> Desk {
     desk
 }
 
+/// The same with a rank list.
+fn load_ranked(desk: Desk, sheet: &[u8], ranks: &[u8], workspace: &mut [u16]) -> Desk {
+    let (desk, answer) = desk.load_ranked(sheet, ranks, workspace);
+    println!("load {}", number(answer));
+    desk
+}
+
 /// Marks a list, prints the answer, and hands the new desk back.
 fn mark(desk: Desk, list: &[u8]) -> Desk {
     let (desk, answer) = desk.mark(list);
     match answer.map(|marked| (marked.number, marked.verdict)) {
         Err(refusal) => println!("refused {}", refusal.number()),
-        Ok((number, Verdict::Valid { count, shortfall })) => {
-            println!("{number} valid {count} {shortfall}");
+        Ok((number, Verdict::Valid { sum, shortfall })) => {
+            println!("{number} valid {sum} {shortfall}");
         }
         Ok((
             number,

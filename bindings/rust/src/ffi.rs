@@ -11,7 +11,7 @@
 
 #![allow(unsafe_code)]
 
-use crate::SHEET;
+use crate::{POINTS, SHEET};
 use std::mem::size_of;
 
 #[repr(C)]
@@ -33,6 +33,7 @@ pub struct ReadResult {
 #[derive(Clone, Debug, PartialEq, Eq)]
 pub struct Held {
     pub sheet: [u8; SHEET],
+    pub ranks: [u8; POINTS],
     /// A bool in C. As a number it can be looked at before it is believed. Only 0
     /// and 1 may be handed to the library.
     pub loaded: u8,
@@ -59,7 +60,7 @@ pub struct DeskMarkResult {
     pub number: u32,
     pub list_number: u32,
     pub verdict: u32,
-    pub count: u32,
+    pub sum: u32,
     pub shortfall: u32,
     pub first: u32,
     pub second: u32,
@@ -68,7 +69,7 @@ pub struct DeskMarkResult {
 // The sums of the fields' sizes: no byte is padding.
 const _: () = assert!(size_of::<MakeResult>() == 4 + 4 + 8);
 const _: () = assert!(size_of::<ReadResult>() == 4 + 4 + 8 + 8);
-const _: () = assert!(size_of::<Held>() == SHEET + 1 + 1 + 2);
+const _: () = assert!(size_of::<Held>() == SHEET + POINTS + 1 + 1 + 2);
 const _: () = assert!(size_of::<Desk>() == size_of::<Held>() + 2);
 const _: () = assert!(size_of::<DeskLoadResult>() == size_of::<Desk>() + 4);
 const _: () = assert!(size_of::<DeskMarkResult>() == size_of::<Desk>() + 7 * 4);
@@ -82,6 +83,16 @@ mod library {
         pub fn plate_make(
             sheet: *const u8,
             sheet_len: usize,
+            output: *mut u8,
+            output_len: usize,
+            workspace: *mut u16,
+            workspace_len: usize,
+        ) -> MakeResult;
+        pub fn plate_make_ranked(
+            sheet: *const u8,
+            sheet_len: usize,
+            ranks: *const u8,
+            ranks_len: usize,
             output: *mut u8,
             output_len: usize,
             workspace: *mut u16,
@@ -102,6 +113,15 @@ mod library {
             workspace: *mut u16,
             workspace_len: usize,
         ) -> DeskLoadResult;
+        pub fn desk_load_ranked(
+            desk: Desk,
+            sheet: *const u8,
+            sheet_len: usize,
+            ranks: *const u8,
+            ranks_len: usize,
+            workspace: *mut u16,
+            workspace_len: usize,
+        ) -> DeskLoadResult;
         pub fn desk_mark(desk: Desk, list: *const u8, list_len: usize) -> DeskMarkResult;
     }
 }
@@ -115,6 +135,26 @@ pub fn make(sheet: &[u8], output: &mut [u8], workspace: &mut [u16]) -> MakeResul
         library::plate_make(
             sheet.as_ptr(),
             sheet.len(),
+            output.as_mut_ptr(),
+            output.len(),
+            workspace.as_mut_ptr(),
+            workspace.len(),
+        )
+    }
+}
+
+pub fn make_ranked(
+    sheet: &[u8],
+    ranks: &[u8],
+    output: &mut [u8],
+    workspace: &mut [u16],
+) -> MakeResult {
+    unsafe {
+        library::plate_make_ranked(
+            sheet.as_ptr(),
+            sheet.len(),
+            ranks.as_ptr(),
+            ranks.len(),
             output.as_mut_ptr(),
             output.len(),
             workspace.as_mut_ptr(),
@@ -141,6 +181,25 @@ pub fn desk_load(desk: Desk, sheet: &[u8], workspace: &mut [u16]) -> DeskLoadRes
             desk,
             sheet.as_ptr(),
             sheet.len(),
+            workspace.as_mut_ptr(),
+            workspace.len(),
+        )
+    }
+}
+
+pub fn desk_load_ranked(
+    desk: Desk,
+    sheet: &[u8],
+    ranks: &[u8],
+    workspace: &mut [u16],
+) -> DeskLoadResult {
+    unsafe {
+        library::desk_load_ranked(
+            desk,
+            sheet.as_ptr(),
+            sheet.len(),
+            ranks.as_ptr(),
+            ranks.len(),
             workspace.as_mut_ptr(),
             workspace.len(),
         )

@@ -13,6 +13,9 @@ pub use saved::{RestoreError, SAVED, SAVED_VERSION};
 
 use std::str::from_utf8;
 
+/// The most points of a sheet.
+pub const POINTS: usize = 32;
+
 /// The most bytes of a sheet: 10 + 6n with n = 32 points.
 pub const SHEET: usize = 202;
 
@@ -36,12 +39,34 @@ pub fn check_sheet(sheet: &[u8]) -> Result<(), Refusal> {
 /// as they were, but for 61, which says that no choice of the sheet is valid:
 /// with it the whole workspace is zero too.
 ///
-/// A sheet that has a plate has one best plate, and that is made. It has the best
-/// count inside. Of several choices with as many, go through the points in the
-/// sheet's order: at the first point where two of them differ, the one with it
-/// inside is preferred.
+/// A sheet that has a plate has one best plate, and that is made. No rank list is
+/// lent, so every rank is 1, and the plate has the best count inside. Of several
+/// choices with as many, go through the points in the sheet's order: at the first
+/// point where two of them differ, the one with it inside is preferred.
 pub fn make(sheet: &[u8], output: &mut [u8], workspace: &mut [u16]) -> Result<usize, Refusal> {
     let made = ffi::make(sheet, output, workspace);
+    written(&made, output.len())
+}
+
+/// Makes the best plate with a rank list and gives its length. The list is a count
+/// byte n, the sheet's point count, then the rank of each point, in the sheet's
+/// order, from 1 to 9; an empty list is refused with 62. Output and workspace are
+/// afterwards as [`make`] leaves them.
+///
+/// The best plate has the best sum: no valid choice has a greater sum of the ranks
+/// of its inside points. Of several choices with that sum, go through the points in
+/// the sheet's order: at the first point where two of them differ, the one with it
+/// inside is preferred.
+///
+/// The questions are those of [`make`]; those of the list, 62 and 63, come after 22
+/// and before 61.
+pub fn make_ranked(
+    sheet: &[u8],
+    ranks: &[u8],
+    output: &mut [u8],
+    workspace: &mut [u16],
+) -> Result<usize, Refusal> {
+    let made = ffi::make_ranked(sheet, ranks, output, workspace);
     written(&made, output.len())
 }
 
@@ -129,10 +154,13 @@ mod tests {
             catch_unwind(|| written(&made, 28)).is_ok()
         };
         assert!(ends(0, 0, 28) && ends(21, 0, 0) && ends(61, 0, 0));
+        assert!(ends(62, 0, 0) && ends(63, 0, 0));
         assert!(!ends(0, 0, 29), "past the output");
         assert!(!ends(0, 1, 28), "a spare field");
         assert!(!ends(21, 0, 1), "a refusal with a length");
+        assert!(!ends(62, 0, 28), "a refusal with a length");
         assert!(!ends(23, 0, 0), "a number that no question has");
+        assert!(!ends(64, 0, 0), "a number that no question has");
     }
 
     #[test]

@@ -1,7 +1,7 @@
 //! What a desk shows, and that it isn't copied by the way.
 
-use crate::{full_sheet, load, mark, number, P1, P10, P3};
-use plates::{ClashKind, Desk, Marked, Verdict};
+use crate::{full_ranks, full_sheet, load, load_ranked, mark, number, P1, P10, P3, PAIR};
+use plates::{ClashKind, Desk, Marked, Verdict, WORKSPACE};
 
 fn shows(desk: &Desk, sheet: Option<&[u8]>, best: Option<u16>, last: u16) {
     assert_eq!(desk.sheet(), sheet);
@@ -26,12 +26,41 @@ fn accessors() {
     shows(&load(desk, &full), Some(&full), Some(32), 3);
 }
 
+/// The ranks are those of the list lent at the last load that wasn't refused, 1 for
+/// each point if there was none.
+#[test]
+fn ranks_of_the_loaded_sheet() {
+    let desk = Desk::new();
+    assert_eq!(desk.ranks(), None);
+    let desk = load(desk, &P1);
+    assert_eq!((desk.ranks(), desk.best()), (Some(&[1, 1, 1][..]), Some(2)));
+    let desk = load_ranked(desk, &P1, &[3, 4, 5, 6]);
+    assert_eq!(
+        (desk.ranks(), desk.best()),
+        (Some(&[4, 5, 6][..]), Some(11))
+    );
+    let desk = mark(desk, &[0]);
+    let before = desk.fork();
+    let (desk, loaded) = desk.load_ranked(&P1, &[3, 4, 5, 0], &mut vec![7; WORKSPACE]);
+    assert_eq!((&desk, number(loaded)), (&before, 63));
+    assert_eq!(desk.ranks(), Some(&[4, 5, 6][..]));
+    let desk = load_ranked(desk, &PAIR, &[2, 1, 2]);
+    assert_eq!((desk.ranks(), desk.best()), (Some(&[1, 2][..]), Some(2)));
+    let desk = load_ranked(desk, &P10, &[0]);
+    assert_eq!((desk.ranks(), desk.best()), (Some(&[][..]), Some(0)));
+    let desk = load_ranked(desk, &full_sheet(), &full_ranks());
+    assert_eq!((desk.ranks(), desk.best()), (Some(&[9; 32][..]), Some(288)));
+    let desk = load(desk, &full_sheet());
+    assert_eq!((desk.ranks(), desk.best()), (Some(&[1; 32][..]), Some(32)));
+    assert_eq!(desk.last_number(), 1);
+}
+
 /// Document 01's lists on P1.
 #[test]
 fn verdicts() {
     let (desk, marked) = load(Desk::new(), &P1).mark(&[2, 1, 2]);
-    let (count, shortfall): (u16, u16) = (2, 0);
-    let verdict = Verdict::Valid { count, shortfall };
+    let (sum, shortfall): (u16, u16) = (2, 0);
+    let verdict = Verdict::Valid { sum, shortfall };
     assert_eq!(marked, Ok(Marked { number: 1, verdict }));
     let (desk, marked) = desk.mark(&[1, 0]);
     let verdict = Verdict::Clash {
@@ -41,8 +70,8 @@ fn verdicts() {
     };
     assert_eq!(marked, Ok(Marked { number: 2, verdict }));
     let (_, marked) = desk.mark(&[0]);
-    let (count, shortfall): (u16, u16) = (0, 2);
-    let verdict = Verdict::Valid { count, shortfall };
+    let (sum, shortfall): (u16, u16) = (0, 2);
+    let verdict = Verdict::Valid { sum, shortfall };
     assert_eq!(marked, Ok(Marked { number: 3, verdict }));
 }
 

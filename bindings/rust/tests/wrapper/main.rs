@@ -3,6 +3,7 @@
 mod desks;
 mod listings;
 mod makings;
+mod ranks;
 mod refusals;
 mod saved;
 mod slices;
@@ -24,6 +25,14 @@ const P3: [u8; 22] = [
     1, 20, 0, 12, 0, 4, 0, 2, 0, 2, // the frame, n
     1, 0, 2, 0, 3, 0, //
     2, 0, 6, 0, 4, 0,
+];
+
+/// Map 20 by 12, label 4 by 2, points (4,3) and (3,4): document 01's tie. One of
+/// them can be inside, and either can.
+const PAIR: [u8; 22] = [
+    1, 20, 0, 12, 0, 4, 0, 2, 0, 2, // the frame, n
+    1, 0, 4, 0, 3, 0, //
+    2, 0, 3, 0, 4, 0,
 ];
 
 /// Map 20 by 12, label 4 by 2, columns 0, 2 and 4 of row 3: document 02 (c)'s sheet
@@ -48,9 +57,23 @@ fn full_sheet() -> Vec<u8> {
     sheet
 }
 
+/// The rank list of a full sheet with rank 9 for each point.
+fn full_ranks() -> [u8; 33] {
+    let mut ranks = [9; 33];
+    ranks[0] = 32;
+    ranks
+}
+
 /// The desk after a load that must be accepted.
 fn load(desk: Desk, sheet: &[u8]) -> Desk {
     let (desk, loaded) = desk.load(sheet, &mut vec![0; WORKSPACE]);
+    assert_eq!(loaded, Ok(()));
+    desk
+}
+
+/// The desk after a load with a rank list that must be accepted.
+fn load_ranked(desk: Desk, sheet: &[u8], ranks: &[u8]) -> Desk {
+    let (desk, loaded) = desk.load_ranked(sheet, ranks, &mut vec![0; WORKSPACE]);
     assert_eq!(loaded, Ok(()));
     desk
 }

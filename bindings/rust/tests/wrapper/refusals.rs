@@ -1,8 +1,8 @@
 //! Every number of a refusal, from a call that is refused with it, and what it
 //! says.
 
-use crate::{load, mark, CROWDED, P1, P3};
-use plates::{check_sheet, make, read_plate, Desk, Refusal, WORKSPACE};
+use crate::{load, load_ranked, mark, CROWDED, P1, P10, P3};
+use plates::{check_sheet, make, make_ranked, read_plate, Desk, Refusal, WORKSPACE};
 use std::error::Error;
 
 /// P3 with other bytes at one place.
@@ -64,6 +64,79 @@ fn no_valid_choice() {
     let (kept, answer) = desk.fork().load(&CROWDED, &mut workspace);
     refused(answer, 61, words);
     assert_eq!(kept, desk);
+    assert!(workspace.iter().all(|&number| number == 0));
+}
+
+/// A making and a load with this rank list are refused; output, workspace and desk
+/// stay.
+fn refused_ranks(sheet: &[u8], ranks: &[u8], number: u8, words: &str) {
+    let (mut output, mut workspace) = ([7; 36], vec![7; WORKSPACE]);
+    let made = make_ranked(sheet, ranks, &mut output, &mut workspace);
+    refused(made, number, words);
+    assert_eq!(output, [7; 36]);
+    let desk = mark(load_ranked(Desk::new(), &P1, &[3, 4, 5, 6]), &[0]);
+    let (kept, answer) = desk.fork().load_ranked(sheet, ranks, &mut workspace);
+    refused(answer, number, words);
+    assert_eq!(kept, desk);
+    assert!(workspace.iter().all(|&number| number == 7));
+}
+
+#[test]
+fn rank_lists() {
+    let words = "has the rank list a count byte that is n, and the length 1 + n?";
+    let no = |sheet: &[u8], ranks: &[u8]| refused_ranks(sheet, ranks, 62, words);
+    no(&P3, &[]);
+    no(&P3, &[1, 1, 1]);
+    no(&P3, &[3, 1, 1]);
+    no(&P3, &[1, 1]);
+    no(&P3, &[3, 1, 1, 1]);
+    no(&P3, &[2]);
+    no(&P3, &[2, 1]);
+    no(&P3, &[2, 1, 1, 1]);
+    no(&P10, &[]);
+    no(&P10, &[1]);
+    no(&P10, &[0, 1]);
+    // both faults
+    no(&P3, &[3, 0, 1]);
+    no(&P3, &[2, 10]);
+    no(&P3, &[2, 1, 1, 0]);
+    let no = |ranks: &[u8]| refused_ranks(&P3, ranks, 63, "is each rank 1 to 9?");
+    no(&[2, 0, 1]);
+    no(&[2, 10, 1]);
+    no(&[2, 1, 0]);
+    no(&[2, 1, 10]);
+    no(&[2, 1, 255]);
+}
+
+/// The questions of a rank list come after the sheet's, 21 and 22, and before 61.
+#[test]
+fn questions_around_a_rank_list() {
+    for ranks in [&[][..], &[2, 0, 1]] {
+        let (mut output, mut workspace) = ([0; 28], vec![0; WORKSPACE]);
+        let words = "is the length 10 + 6n (in a plate: at least that)?";
+        refused_ranks(&P3[..21], ranks, 16, words);
+        let words = "has the output at least 12 + 8n bytes?";
+        let made = make_ranked(&P3, ranks, &mut output[1..], &mut workspace);
+        refused(made, 21, words);
+        let words = "is the workspace at least 32,768 numbers of 16 bits?";
+        let made = make_ranked(&P3, ranks, &mut output, &mut workspace[1..]);
+        refused(made, 22, words);
+        let (_, loaded) = Desk::new().load_ranked(&P3, ranks, &mut workspace[1..]);
+        refused(loaded, 22, words);
+    }
+    let words = "has the rank list a count byte that is n, and the length 1 + n?";
+    refused_ranks(&CROWDED, &[2, 1, 1], 62, words);
+    refused_ranks(&CROWDED, &[3, 1, 0, 1], 63, "is each rank 1 to 9?");
+    let (mut output, mut workspace) = ([7; 36], vec![7; WORKSPACE + 1]);
+    let words = "is some choice of the sheet valid?";
+    let made = make_ranked(&CROWDED, &[3, 1, 9, 1], &mut output, &mut workspace);
+    refused(made, 61, words);
+    assert_eq!(output, [7; 36]);
+    assert!(workspace.iter().all(|&number| number == 0));
+    workspace.fill(7);
+    let (desk, loaded) = Desk::new().load_ranked(&CROWDED, &[3, 1, 9, 1], &mut workspace);
+    refused(loaded, 61, words);
+    assert_eq!(desk, Desk::new());
     assert!(workspace.iter().all(|&number| number == 0));
 }
 

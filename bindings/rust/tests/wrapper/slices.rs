@@ -1,7 +1,7 @@
 //! What the library is lent: empty slices, and slices at any place in a buffer.
 
 use crate::{load, number, P3};
-use plates::{check_sheet, listing, make, read_plate, Desk, LISTING, WORKSPACE};
+use plates::{check_sheet, listing, make, make_ranked, read_plate, Desk, LISTING, WORKSPACE};
 
 /// P3 with both points inside adds these bytes.
 const PLATE: [u8; 4] = [2, 0, 1, 0];
@@ -12,6 +12,11 @@ fn empty_slices() {
     assert_eq!(number(make(&[], &mut [], &mut [])), 11);
     assert_eq!(number(make(&P3, &mut [], &mut [])), 21);
     assert_eq!(number(make(&P3, &mut [0; 28], &mut [])), 22);
+    assert_eq!(number(make_ranked(&[], &[], &mut [], &mut [])), 11);
+    assert_eq!(number(make_ranked(&P3, &[], &mut [], &mut [])), 21);
+    assert_eq!(number(make_ranked(&P3, &[], &mut [0; 28], &mut [])), 22);
+    let made = make_ranked(&P3, &[], &mut [0; 28], &mut vec![0; WORKSPACE]);
+    assert_eq!(number(made), 62);
     assert_eq!(number(read_plate(&[])), 11);
     assert_eq!(listing(&[], &mut []), None);
     assert_eq!(listing(&[], &mut [0; 11]), None);
@@ -20,6 +25,12 @@ fn empty_slices() {
     assert_eq!((&desk, number(loaded)), (&Desk::new(), 11));
     let (desk, loaded) = desk.load(&P3, &mut []);
     assert_eq!((&desk, number(loaded)), (&Desk::new(), 22));
+    let (desk, loaded) = desk.load_ranked(&[], &[], &mut []);
+    assert_eq!((&desk, number(loaded)), (&Desk::new(), 11));
+    let (desk, loaded) = desk.load_ranked(&P3, &[], &mut []);
+    assert_eq!((&desk, number(loaded)), (&Desk::new(), 22));
+    let (desk, loaded) = desk.load_ranked(&P3, &[], &mut vec![0; WORKSPACE]);
+    assert_eq!((&desk, number(loaded)), (&Desk::new(), 62));
     let (desk, marked) = desk.mark(&[]);
     assert_eq!((&desk, number(marked)), (&Desk::new(), 51));
     let before = load(desk, &P3);
@@ -35,6 +46,8 @@ fn empty_ends() {
     assert_eq!(number(read_plate(end)), 11);
     assert_eq!(listing(end, &mut [0; 12]), Some("plate 0 0 0\n"));
     assert_eq!(number(Desk::new().mark(end).1), 51);
+    let (_, loaded) = Desk::new().load_ranked(&P3, end, &mut vec![0; WORKSPACE]);
+    assert_eq!(number(loaded), 62);
 }
 
 /// Odd and even addresses, neighbours before and after every slice.
@@ -66,5 +79,25 @@ fn any_place_in_a_buffer() {
         assert_eq!(listed, Some("plate 2 2 0\n1 in\n2 in\n"));
         assert!(text[..offset].iter().all(|&byte| byte == 0xa5));
         assert!(text[offset + 22..].iter().all(|&byte| byte == 0xa5));
+    }
+}
+
+/// The same of a rank list, whose neighbours are no ranks.
+#[test]
+fn ranks_at_any_place_in_a_buffer() {
+    let mut workspace = vec![0; WORKSPACE];
+    for offset in 0..17 {
+        let mut ranks = vec![0xee; offset];
+        ranks.extend([2, 9, 1]);
+        ranks.extend([0xee; 5]);
+        let ranks = &ranks[offset..offset + 3];
+        let mut output = [0xa5; 28];
+        let made = make_ranked(&P3, ranks, &mut output, &mut workspace);
+        assert_eq!(made, Ok(26));
+        assert_eq!(output[..22], P3);
+        assert_eq!(output[22..], [2, 0, 1, 0, 0xa5, 0xa5]);
+        let (desk, loaded) = Desk::new().load_ranked(&P3, ranks, &mut workspace);
+        assert_eq!(loaded, Ok(()));
+        assert_eq!((desk.ranks(), desk.best()), (Some(&[9, 1][..]), Some(10)));
     }
 }
