@@ -3,8 +3,9 @@
 //! The input is a sequence of calls, in the form of a desk's script: a kind byte and its parts, each of
 //! which is a two-byte length, low byte first, and that many bytes. Kind 1 is a load on the program's
 //! desk (fresh at the start), 2 a mark there, 11 a sheet that is made into a plate, 12 a plate that is
-//! read. Kinds 3 and 13 have two parts, a sheet and a rank list: 3 is a load and 13 a making. Each call gives one line; that of a plate made has all its bytes. A call cut short or another
-//! kind byte gives the line `bad call`, and the program stops.
+//! read. Kinds 3 and 13 have two parts, a sheet and a rank list: 3 is a load and 13 a making. Each call
+//! gives one line; that of a plate made has all its bytes. A call cut short or another kind byte gives
+//! the line `bad call`, and the program stops.
 
 use crate::cases::{case, CASES, WRONG_LISTS};
 use crate::damage::{aim_at_list, aim_at_plate, aim_at_ranks, aim_at_sheet, once_in};
@@ -69,8 +70,8 @@ const MOST_PART: usize = 500;
 /// How many calls are made up.
 const MADE_UP: usize = 250;
 
-/// How many of these, at least, are sheets with several best choices, without a rank list, and how many
-/// with one.
+/// How many of these, at least, are sheets with several best choices: so many without a rank list, and
+/// so many with one.
 const TIES: usize = 5;
 
 /// How many, at least, are sheets whose best choice is another with a rank list than without.

@@ -32,7 +32,8 @@ use Rattle.plate_maker.specs.MakingLaws.{making-workspace, made-output}
 use Rattle.plate_maker.specs.declared.MakeAnswer.{MakeAnswer}
 use Rattle.plate_maker.specs.declared.MakeAnswer.the-variants.{Made, Refused as RefusedMaking}
 use Rattle.desk.specs.Questions.{sumOf, listSum, aboveBefore, entryNo, entriesNo}
-use Rattle.desk.specs.Desk.{noSheet, noRanks, loadOutcome, ranksBelow, ranksHeld, rankHeld, heldOf, withHeld, loadedDesk, Loading, verdictBy, verdictAt}
+use Rattle.desk.specs.Desk.{noSheet, noRanks, loadOutcome, ranksBelow, ranksHeld, rankHeld, heldOf, withHeld}
+use Rattle.desk.specs.Desk.{loadedDesk, Loading, verdictBy, verdictAt}
 use Rattle.desk.specs.Blank.{blankPlate}
 use Rattle.desk.specs.Lists.{inside-sum, sum-same}
 use Rattle.desk.specs.Loaded.{rank-held, plate-inside, plate-room}
@@ -115,7 +116,7 @@ module _ (s : List ℕ) (rank : ℕ → ℕ) (best : ℕ) (l : List ℕ) (x : Cl
       → Valid sum shortfall ≡ verdictAt s rank best l
   verdict-valid e c s = ap₂ Valid c (s ∙ ap (λ n. best - n) c) ∙ sym (by-clash ∙ ap (λ y. verdictBy y (listSum rank l) best) e)
 
--- LOADING, from the promise of make
+-- LOADING, from the promise of make and make_ranked
 
 -- the largest plate has room, so 21 never comes
 making-load : (s : List ℕ) (l : Option (List ℕ)) (cells : ℕ) → makingNo s l plateRoom cells ≡ loadNo s l cells
@@ -129,7 +130,7 @@ making-load s l cells =
 
 module _ (s : List ℕ) (l : Option (List ℕ)) (o w o′ w′ : List ℕ) (answer : MakeAnswer) (blank : o ≡ blankPlate)
     (m : Making s l o w answer o′ w′) where
-  -- the questions of make are the load's
+  -- the questions of the making are the load's
   same-questions : makingNo s l (length o) (length w) ≡ loadNo s l (length w)
   unfolding blankPlate
   same-questions = ap (λ x. makingNo s l (length x) (length w)) blank ∙ making-load s l (length w)

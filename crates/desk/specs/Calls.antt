@@ -1,6 +1,6 @@
 -- A sequence of calls, and document 01's words about it ("The desk", words of demand 3) with the rank lists of document 02 (e): first the
--- sequence and the desk that it leaves, by the promises of load and mark; then the words, from the calls alone. What demand 3 claims in these words is in DemandThree.antt. Assumes
--- nothing.
+-- sequence and the desk that it leaves, by the promises of a load and of a mark; then the words, from the calls alone. What demand 3 claims
+-- in these words is in DemandThree.antt. Assumes nothing.
 use mathlib.Core.Path.{_≡_}
 use mathlib.Core.Bool.{Bool, true, false, cond, _||_}
 use mathlib.Core.Logic.{_↔_}
@@ -36,7 +36,7 @@ pub data Calls : Type 0 where
   _andThen_ : Calls → Call → Calls
 
 infixl 20 _andThen_
--- The desk that a call hands back: loadOf and markOf are the one result that the promises of load and mark leave (loading-exactly,
+-- The desk that a call hands back: loadOf and markOf are the one result that the promises of a load and a mark leave (loading-exactly,
 -- marking-exactly, of DeskLaws.antt).
 abbrev pub deskOf : Desk → Call → Desk
 deskOf d (load s r w) = loadOf d s r w .desk
@@ -120,9 +120,9 @@ pub record ValidList (s l : List ℕ) : Type 0 where
   pub well-formed : WellFormed s l
   pub valid : Valid (pointsOf s) (choiceOfList l)
 
--- "A plate made from S is the plate that a making puts into its output when it is given the bytes of S and isn't refused", and "the plate is
--- made with that same list" (document 02 (e)): p is the first written-length bytes of an output that meets make's contract, with the list r
--- or none and any buffers.
+-- "A plate made from S is the plate that a making puts into its output when it is given the bytes of S and isn't refused", and "the plate
+-- is made with that same list" (document 02 (e)): p is the first written-length bytes of an output that meets the contract of make, or of
+-- make_ranked with the list r, with any buffers.
 pub record PlateMade (s : List ℕ) (r : Option (List ℕ)) (p : List ℕ) : Type 0 where
   pub output : List ℕ
   pub workspace : List ℕ

@@ -118,8 +118,8 @@ pub record DemandThree (calls : Calls) : Type 0 where
   pub load : (s : List ℕ) (r : Option (List ℕ)) (w : List ℕ) → LoadRight calls s r w
   pub mark : (l : List ℕ) → MarkRight calls l
   -- "At every point of the sequence that has a last accepted sheet S, the inside section of every plate made from S, count byte included,
-  -- is a valid list of S whose count no valid list of S exceeds, and that count is the best count of S"
-  -- with the list lent at S's load, if any
+  -- is a valid list of S whose count no valid list of S exceeds, and that count is the best count of S", which are sums of ranks; "the
+  -- plate is made with that same list" (document 02 (e)), the one lent at S's load, if any
   pub plates : (s : List ℕ) (r : Option (List ℕ)) → lastTaken calls ≡ some (record { sheet = s; ranks = r })
       → (p : List ℕ) → PlateMade s r p → BestList s r (sectionRead p)
   -- There is such a plate, since 61 is one of the load's questions: the claim never holds for want of one.

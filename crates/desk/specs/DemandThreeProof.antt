@@ -14,13 +14,13 @@ use Rattle.labeling.specs.Points.{Choice}
 use Rattle.labeling.specs.Marks.{Valid}
 use Rattle.labeling.specs.Best.{weight, Preferred, Feasible, bestSum}
 use Rattle.labeling.specs.Agree.{valid-agree}
-use Rattle.labeling.specs.Greatest.{best-sums, best-sum-most}
+use Rattle.labeling.specs.Greatest.{best-sums, best-sum-most, best-sum-reached}
 use Rattle.labeling.specs.Decide.{not-both, decide}
 use Rattle.format.specs.Sheet.{pointCount, pointsOf}
-use Rattle.format.specs.Accepted.{Accepted}
+use Rattle.format.specs.Accepted.{UpTo, Accepted}
 use Rattle.format.specs.Plate.{choiceOf, insideBelow, bestChoiceOf, bestPlate}
 use Rattle.format.specs.RankList.{rankIn}
-use Rattle.format.specs.RightRanks.{RightRanks}
+use Rattle.format.specs.RightRanks.{RightRanks, ranks-up-to}
 use Rattle.clash.specs.declared.ClashKind.{ClashKind}
 use Rattle.clash.specs.declared.Clash.{Clash}
 use Rattle.clash.specs.declared.Clash.the-variants.{None, Between}
@@ -33,10 +33,10 @@ use Rattle.plate_maker.specs.MakingLaws.{made-making, made-preferred, made-star
 use Rattle.plate_maker.specs.declared.MakeAnswer.{MakeAnswer}
 use Rattle.plate_maker.specs.declared.MakeAnswer.the-variants.{Made, Refused}
 use Rattle.desk.specs.Questions.{positions, sumOf, listSum, loadedListNo, markNo}
-use Rattle.desk.specs.Desk.{nothingHeld, ranksHeld, rankHeld, heldOf, loadOutcome, verdictBy, verdictAt}
+use Rattle.desk.specs.Desk.{noSheet, nothingHeld, ranksHeld, rankHeld, heldOf, loadOutcome, verdictBy, verdictAt}
 use Rattle.desk.specs.Desk.{verdictOf, firstNo, markedDesk, verdictOutcome, markOutcome}
 use Rattle.desk.specs.DeskLaws.{load-yes, load-no, mark-yes, mark-no, none-mark}
-use Rattle.desk.specs.Lists.{Listed, none-list, inside-sum, sum-same, list-sum, choice-listed}
+use Rattle.desk.specs.Lists.{Listed, none-list, weight-most, inside-sum, sum-same, list-sum, choice-listed}
 use Rattle.desk.specs.Calls.{load, mark, Calls, noCalls, _andThen_, deskAfter, AcceptedLoad, accepts, loadedAfter}
 use Rattle.desk.specs.Calls.{Taken, lastTaken, pointsIn}
 use Rattle.desk.specs.Calls.{markedLists, lastNumber, markNoAfter, MarkedAfter, choiceOfList, ValidList, PlateMade, sectionRead}
@@ -84,7 +84,9 @@ module _ (s : List ℕ) (r : Option (List ℕ)) (l : List ℕ) (a : Accepted s) 
               let h : some k ≡ some m = λ t. q t .kind in
               let y : Between i j k ≡ Between a b m = cc in
               c .between a b m .0 (e ∙ y),
-          λ n. ap (λ x. verdictOutcome (verdictBy x (listSum (rankIn r) l) (bestSum (pointsOf s) (rankIn r)))) (sym e ∙ c .between a b m .1 n),
+          λ n.
+              ap (λ x. verdictOutcome (verdictBy x (listSum (rankIn r) l) (bestSum (pointsOf s) (rankIn r))))
+              (sym e ∙ c .between a b m .1 n),
         );
       }
 
@@ -112,7 +114,7 @@ module _ (s : List ℕ) (r : Option (List ℕ)) (a : Accepted s) (S : Choice) (v
         best = e;
       }
 
--- "A plate made from S" is the best plate, whose choice is the preferred one: only the promise of make is used.
+-- "A plate made from S" is the best plate, whose choice is the preferred one: only the promise of make and make_ranked is used.
 module _ (s : List ℕ) (r : Option (List ℕ)) where
   plate-made : (p : List ℕ) → PlateMade s r p → (p ≡ bestPlate s r) × Preferred (pointsOf s) (rankIn r) (bestChoiceOf s r)
   plate-made p m = by (m .answer) (m .made) (m .not-refused) (m .plate)
@@ -296,6 +298,37 @@ spare-zero calls = by (lastTaken calls) (tied calls .sheet)
     by : (o : Option Taken) → SheetHeld (deskAfter calls) o → deskAfter calls .held .spare ≡ 0
     by none h = ap (λ x. x .spare) h
     by (some t) h = ap (λ x. x .spare) (h .0)
+
+-- the ranks held are 1 to 9, one for each point of the sheet held
+pub ranks-held : (calls : Calls) (p : ℕ) → p < pointCount (deskAfter calls .held .sheet)
+    → UpTo 9 (rankHeld (deskAfter calls .held .ranks) p)
+unfolding SheetHeld noSheet
+ranks-held calls p l = by (lastTaken calls) (tied calls .sheet)
+  where
+    by : (o : Option Taken) → SheetHeld (deskAfter calls) o → UpTo 9 (rankHeld (deskAfter calls .held .ranks) p)
+    by none h = let e = ap (λ x. pointCount (x .sheet)) h in absurd (omega arith)
+    by (some t) h =
+        let e : pointCount (deskAfter calls .held .sheet) ≡ pointCount (t .sheet) =
+        ap (λ x. pointCount (x .sheet)) (h .0) ∙ count-same (t .sheet) in
+        let r = rank-held (t .sheet) (t .ranks) p (omega arith) in
+        let q : rankHeld (deskAfter calls .held .ranks) p ≡ rankIn (t .ranks) p = ap (λ x. rankHeld (x .ranks) p) (h .0) ∙ r in
+        rw q (ranks-up-to (pointCount (t .sheet)) (t .ranks) (h .2) p (omega arith))
+
+-- and the best is at most 288, 32 points of rank 9; so is the sum of every valid list (`VerdictRight.at-most`)
+pub best-most : (calls : Calls) → deskAfter calls .held .best ≤ 288
+unfolding SheetHeld weight
+best-most calls = by (lastTaken calls) (tied calls .sheet)
+  where
+    by : (o : Option Taken) → SheetHeld (deskAfter calls) o → deskAfter calls .held .best ≤ 288
+    by none h = let e = ap (λ x. x .best) h in omega arith
+    by (some t) h =
+        let P = pointsOf (t .sheet) in
+        let e = ap (λ x. x .best) (h .0) in
+        let x = best-sum-reached P (rankIn (t .ranks)) (h .1 .proper .label-width .0) (h .3) in
+        let m =
+        weight-most (rankIn (t .ranks)) (x .0) (pointCount (t .sheet))
+        (λ i l. ranks-up-to (pointCount (t .sheet)) (t .ranks) (h .2) i l .1) in
+        omega (arith, x .2, h .1 .proper .few)
 
 load-right : (calls : Calls) (s : List ℕ) (r : Option (List ℕ)) (w : List ℕ) → LoadRight calls s r w
 load-right calls s r w = record {

@@ -1,4 +1,4 @@
--- What load and mark answer and leave, on every value of the desk, reachable or not (document 01, "The desk", and document 02 (c) and
+-- What a load and a mark answer and leave, on every value of the desk, reachable or not (document 01, "The desk", and document 02 (c) and
 -- (e)): the promises of the calls. Assumes nothing.
 use mathlib.Core.Path.{_≡_, refl, sym}
 use mathlib.Core.Bool.{Bool, true, false, cond, not, true≢false}
@@ -75,13 +75,14 @@ withLast d last = record { held = d .held; last = last }
 
 -- LOAD
 
--- The cases of load's answer: whether it is refused, and the number of the first no, 0 where nothing is refused.
+-- The cases of a load's answer: whether it is refused, and the number of the first no, 0 where nothing is refused.
 abbrev pub loadOutcome : LoadAnswer → Outcome
 loadOutcome Accepted = record { refused = false; no = 0 }
 loadOutcome (Refused k) = record { refused = true; no = k }
 
 -- The desk d after a load of the bytes s with the rank list r or none: by cases on the answer. "A load replaces the sheet and its best
--- count and keeps the last number"; the best count is the best sum (document 02 (e)); on a refusal, 61 included, the desk stays untouched.
+-- count and keeps the last number"; the best sum stands for the best count, and the ranks go with it ("The desk's count and shortfall
+-- become sums", document 02 (e)); on a refusal, 61 included, the desk stays untouched.
 abbrev pub loadedDesk : LoadAnswer → Desk → List ℕ → Option (List ℕ) → Desk
 loadedDesk Accepted d s r = withHeld d (heldOf s (ranksHeld s r) (bestSum (pointsOf s) (rankIn r)))
 loadedDesk (Refused k) d s r = d
@@ -156,7 +157,7 @@ abbrev pub firstNo : Desk → List ℕ → ℕ
 firstNo d l = markNo (d .held .loaded) (pointCount (d .held .sheet)) (d .last) l
 
 -- The verdict by the first clash: "valid, with the list's count and its shortfall; or a clash, with two positions" and its kind. The count
--- is a sum of ranks, and the shortfall is 0 where it exceeds the best.
+-- is the sum of ranks ("The desk's count and shortfall become sums", document 02 (e)). The shortfall is 0 where the sum exceeds the best.
 abbrev pub verdictBy : Clash → ℕ → ℕ → Verdict
 verdictBy None sum best = Valid sum (best - sum)
 verdictBy (Between first second kind) sum best = ClashVerdict first second kind

@@ -8,7 +8,7 @@ use lib.ListN.{length, replicate}
 use native.Mathlib.Omega.{arith}
 use Rattle.format.specs.Sizes.{workspaceCells}
 use Rattle.format.specs.Accepted.{accepted}
-use Rattle.format.specs.RightRanks.{none-ranks}
+use Rattle.format.specs.RightRanks.{none-right}
 use Rattle.format.specs.MakingQuestions.{workspaceAfter, loadNo, none-choice, none-load}
 use Rattle.plate_reader.specs.Cases.{sheet1, all-right}
 use Rattle.plate_reader.specs.Refusals.{crowded, crowded-61}
@@ -23,7 +23,7 @@ first-loaded =
     let c = all-right .0 in
     let a = accepted sheet1 (c .accepted) in
     none-load sheet1 none workspaceCells .of
-    (((a, (omega arith, tt)), none-ranks _ none .is (c .expected .0)), none-choice sheet1 a .is (c .expected .1))
+    (((a, (omega arith, tt)), none-right _), none-choice sheet1 a .is (c .expected .1))
 
 -- With a workspace w that is just large enough.
 module _ (w : List ℕ) (cells : length w ≡ workspaceCells) where

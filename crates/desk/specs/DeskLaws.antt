@@ -1,4 +1,4 @@
--- The promises of load and mark in their cases, and that each leaves one result; and what a mark that isn't refused has been asked.
+-- The promises of a load and a mark in their cases, and that each leaves one result; and what a mark that isn't refused has been asked.
 -- Assumes nothing.
 use mathlib.Core.Path.{_≡_, sym, ap, _∙_}
 use mathlib.Core.Bool.{Bool, true}

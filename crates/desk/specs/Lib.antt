@@ -1,4 +1,4 @@
--- TO BE BELIEVED, in this order: the questions, the promises of load and mark, the words of demand 3, and what it claims.
+-- TO BE BELIEVED, in this order: the questions, the promises of a load and a mark, the words of demand 3, and what it claims.
 pub mod Questions
 pub mod Desk
 pub mod Calls

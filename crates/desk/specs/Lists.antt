@@ -3,7 +3,7 @@
 use mathlib.Core.Path.{_≡_, refl, sym, ap, _∙_}
 use mathlib.Core.Bool.{true}
 use mathlib.Core.List.{List, [], _∷_, _++_, append-nil}
-use Prim.Native.Nat.{ℕ, zero, suc, _+_, _<_}
+use Prim.Native.Nat.{ℕ, zero, suc, _+_, _*_, _≤_, _<_}
 use lib.Dec.{ltb, eqb}
 use lib.ListN.{length, getD}
 use borrow.Author.Tests.{eqb-true, eqb-false, eq-eqb}
@@ -117,6 +117,15 @@ inside-sum rank S (suc m) =
     decide (S m)
     (λ e. rw e (omega (arith, sum-last rank (insideBelow S m) m, inside-sum rank S m)))
     (λ e. rw (e, append-nil) (omega (arith, inside-sum rank S m)))
+
+-- with ranks up to 9, no choice of m positions weighs more than 9 each
+pub weight-most : (rank : ℕ → ℕ) (S : Choice) (m : ℕ) → ((i : ℕ) → i < m → rank i ≤ 9) → weightBelow rank S m ≤ 9 * m
+unfolding weightBelow
+weight-most rank S zero f = omega arith
+weight-most rank S (suc m) f =
+    let ih = weight-most rank S m (λ i l. f i (omega arith)) in
+    let a = f m (omega arith) in
+    decide (S m) (λ e. rw e (omega arith)) (λ e. rw e (omega arith))
 
 -- only the ranks below n matter to a list of positions below n
 pub sum-same : (rank other : ℕ → ℕ) (n : ℕ) (l : List ℕ) → ascending n l ≡ true → ((p : ℕ) → p < n → rank p ≡ other p)

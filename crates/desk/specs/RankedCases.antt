@@ -18,7 +18,7 @@ use Rattle.clash.specs.FirstClash.{pairClash, ownClash, firstOf, laterClash, cl
 use Rattle.clash.specs.declared.ClashKind.the-variants.{Labels}
 use Rattle.plate_reader.specs.Cases.{at, sheet}
 use Rattle.desk.specs.Questions.{sumOf, countRight, entryNo, entriesNo, listNo, loadedListNo, markNo}
-use Rattle.desk.specs.Desk.{fresh, ranksBelow, ranksHeld, heldOf, verdictAt, markOf}
+use Rattle.desk.specs.Desk.{fresh, ranksBelow, ranksHeld, heldOf, withHeld, verdictAt, markOf}
 use Rattle.desk.specs.DeskLaws.{load-yes, load-no}
 use Rattle.desk.specs.Calls.{load, Calls, noCalls, _andThen_, deskAfter}
 use Rattle.desk.specs.declared.Desk.{Desk}
@@ -33,14 +33,14 @@ ranks = 2 ∷ 1 ∷ 2 ∷ []
 
 -- A desk with the pair, these ranks in it and this best sum.
 abbrev holding : List ℕ → ℕ → Desk
-holding r best = record { held = heldOf pair (r ++ replicate 30 0) best; last = 0 }
+holding r best = withHeld fresh (heldOf pair (r ++ replicate 30 0) best)
 
--- THE LOADS, with a workspace that is large enough: with the list, without one, and with a rank 0 in it.
+-- THE LOADS, with a workspace that is large enough: with the list, without one, with an empty list, and with a rank 0 in it.
 numbers : (loadNo pair (some ranks) workspaceCells ≡ 0) × (loadNo pair none workspaceCells ≡ 0)
-    × (loadNo pair (some (2 ∷ 0 ∷ 2 ∷ [])) workspaceCells ≡ 63)
+    × (loadNo pair (some []) workspaceCells ≡ 62) × (loadNo pair (some (2 ∷ 0 ∷ 2 ∷ [])) workspaceCells ≡ 63)
 unfolding twoBytes every unlikeEarlier pointNo pointsNo questionsNo sheetNo rankIn rankCountRight ranksAllowed ranksNo
     loadAskedNo loadNo conflictB apartB withinB validB weightBelow weight put bestFrom best
-numbers = (refl, refl, refl)
+numbers = (refl, refl, refl, refl)
 
 -- The best sums: 2 with the list, 1 without.
 sums : (bestSum (pointsOf pair) (rankIn (some ranks)) ≡ 2) × (bestSum (pointsOf pair) (rankIn none) ≡ 1)
@@ -73,8 +73,9 @@ module _ (w : List ℕ) (cells : length w ≡ workspaceCells) where
     pub first : markOf (deskAfter loaded) (1 ∷ 0 ∷ []) .answer ≡ Marked 1 (Valid 1 1)
     pub second : markOf (deskAfter loaded) (1 ∷ 1 ∷ []) .answer ≡ Marked 1 (Valid 2 0)
     pub both : markOf (deskAfter loaded) (2 ∷ 0 ∷ 1 ∷ []) .answer ≡ Marked 1 (Clash 0 1 Labels)
-    -- a load that is refused for its list leaves the ranks
-    pub refused : deskAfter (loaded andThen load pair (some (2 ∷ 0 ∷ 2 ∷ [])) w) ≡ deskAfter loaded
+    -- a load that is refused for its list, with 62 or 63, leaves the ranks
+    pub refused-62 : deskAfter (loaded andThen load pair (some []) w) ≡ deskAfter loaded
+    pub refused-63 : deskAfter (loaded andThen load pair (some (2 ∷ 0 ∷ 2 ∷ [])) w) ≡ deskAfter loaded
     -- a load without a list doesn't
     pub unranked : deskAfter (loaded andThen load pair none w) ≡ holding (1 ∷ 1 ∷ []) 1
 
@@ -86,16 +87,18 @@ module _ (w : List ℕ) (cells : length w ≡ workspaceCells) where
   ranked =
       let yes-list = load-yes fresh pair (some ranks) w (number (some ranks) ∙ numbers .0) in
       let at : deskAfter loaded ≡ holding (1 ∷ 2 ∷ []) 2 =
-      ap (λ x. x .desk) yes-list ∙ ap₂ (λ l b. record { held = heldOf pair l b; last = 0 }) (kept .0) (sums .0) in
+      ap (λ x. x .desk) yes-list ∙ ap₂ (λ l b. withHeld fresh (heldOf pair l b)) (kept .0) (sums .0) in
       record {
         desk = at;
         first = ap (λ d. markOf d (1 ∷ 0 ∷ []) .answer) at ∙ marks .0;
         second = ap (λ d. markOf d (1 ∷ 1 ∷ []) .answer) at ∙ marks .1;
         both = ap (λ d. markOf d (2 ∷ 0 ∷ 1 ∷ []) .answer) at ∙ marks .2;
-        refused = ap (λ x. x .desk) (load-no (deskAfter loaded) pair (some (2 ∷ 0 ∷ 2 ∷ [])) w
-            (λ z. (let e = number (some (2 ∷ 0 ∷ 2 ∷ [])) ∙ numbers .2 in omega arith)));
+        refused-62 =
+            ap (λ x. x .desk) (load-no (deskAfter loaded) pair (some []) w (λ z. (let e = number (some []) ∙ numbers .2 in omega arith)));
+        refused-63 = ap (λ x. x .desk) (load-no (deskAfter loaded) pair (some (2 ∷ 0 ∷ 2 ∷ [])) w
+            (λ z. (let e = number (some (2 ∷ 0 ∷ 2 ∷ [])) ∙ numbers .3 in omega arith)));
         unranked =
             ap (λ x. x .desk) (load-yes (deskAfter loaded) pair none w (number none ∙ numbers .1))
-            ∙ ap₂ (λ l b. record { held = heldOf pair l b; last = deskAfter loaded .last }) (kept .1) (sums .1)
-            ∙ ap (λ d. record { held = heldOf pair (1 ∷ 1 ∷ replicate 30 0) 1; last = d .last }) at;
+            ∙ ap₂ (λ l b. withHeld (deskAfter loaded) (heldOf pair l b)) (kept .1) (sums .1)
+            ∙ ap (λ d. withHeld d (heldOf pair (1 ∷ 1 ∷ replicate 30 0) 1)) at;
       }

@@ -1,9 +1,10 @@
 -- "Without a list every rank is 1 and all earlier answers hold" (document 02 (e)), at the desk: sums are counts; and a load with a list of
 -- ones is one without a list. Assumes nothing.
-use mathlib.Core.Path.{_≡_, refl, ap, ap₂, _∙_}
+use mathlib.Core.Path.{_≡_, refl, sym, ap, ap₂, _∙_, subst}
+use mathlib.Core.Bool.{false}
 use mathlib.Core.List.{List, [], _∷_, _++_}
 use mathlib.Core.Option.{none, some}
-use Prim.Native.Nat.{ℕ, zero, suc, _-_, _≤_, _<_}
+use Prim.Native.Nat.{ℕ, zero, suc, _+_, _-_, _≤_, _<_}
 use lib.ListN.{length}
 use native.Mathlib.Omega.{arith}
 use Rattle.labeling.specs.Marks.{Valid}
@@ -15,9 +16,12 @@ use Rattle.format.specs.Sizes.{mostPoints}
 use Rattle.format.specs.MakingQuestions.{loadNo}
 use Rattle.format.specs.Unranked.{without-list, ones, rank-one, ones-load, ones-best}
 use Rattle.desk.specs.Questions.{listCount, sumOf, listSum}
-use Rattle.desk.specs.Desk.{ranksBelow, ranksHeld, heldOf, loadedDesk, loadResult, loadAnswerOf, loadOf, VerdictOutcome, validOutcome}
-use Rattle.desk.specs.Calls.{choiceOfList, ValidList}
+use Rattle.desk.specs.Desk.{ranksBelow, ranksHeld, heldOf, withHeld, loadedDesk, loadResult, loadAnswerOf, loadOf}
+use Rattle.desk.specs.Desk.{markOf, markOutcome, VerdictOutcome, validOutcome}
+use Rattle.desk.specs.Calls.{Calls, deskAfter, Taken, lastTaken, lastNumber, MarkedAfter}
+use Rattle.desk.specs.Calls.{choiceOfList, ValidList, PlateMade, sectionRead}
 use Rattle.desk.specs.DemandThree.{VerdictRight, BestList}
+use Rattle.desk.specs.DemandThreeProof.{demand-three}
 use Rattle.desk.specs.declared.Desk.{Desk}
 use Rattle.desk.specs.declared.LoadAnswer.{LoadAnswer}
 use Rattle.desk.specs.declared.LoadAnswer.the-variants.{Accepted, Refused}
@@ -30,7 +34,7 @@ unfolding sumOf rankIn
 sum-count [] = refl
 sum-count (p ∷ l) = omega (arith, sum-count l)
 
--- What demand 3 says of a verdict in document 01's words, by counts.
+-- The clauses of a right verdict that speak of counts, as document 01 has them. The others have no ranks in them.
 pub record VerdictByCount (s l : List ℕ) (v : VerdictOutcome) : Type 0 where
   pub valid : Valid (pointsOf s) (choiceOfList l) → v ≡ validOutcome (listCount l) (bestCount (pointsOf s) - listCount l)
   pub at-most : Valid (pointsOf s) (choiceOfList l) → listCount l ≤ bestCount (pointsOf s)
@@ -59,6 +63,28 @@ best-by-count s l r =
       best = rw (c, without-list s .best) at (r .best);
     }
 
+-- "all earlier answers hold", at every point of a sequence whose last accepted load was lent no list, that of the sheet s
+pub record ByCount (calls : Calls) (s : List ℕ) : Type 0 where
+  pub mark : (l : List ℕ) → MarkedAfter calls l
+      → (v : VerdictOutcome)
+      × (markOutcome (markOf (deskAfter calls) l .answer)
+      ≡ record { refused = false; no = 0; number = some (lastNumber calls + 1); verdict = some v })
+      × VerdictByCount s l v
+  pub plates : (p : List ℕ) → PlateMade s none p → BestByCount s (sectionRead p)
+
+pub by-count : (calls : Calls) (s : List ℕ) → lastTaken calls ≡ some (record { sheet = s; ranks = none }) → ByCount calls s
+by-count calls s e = record {
+  mark = λ l z.
+      let m = demand-three calls .mark l .marked z in
+      let r = taken-right l (m .verdict) _ _ (sym (m .last-accepted) ∙ e) (m .right) in
+      (m .verdict, m .outcome, verdict-by-count s l (m .verdict) r);
+  plates = λ p m. best-by-count s (sectionRead p) (demand-three calls .plates s none e p m);
+}
+  where
+    taken-right : (l : List ℕ) (v : VerdictOutcome) (t u : Taken) → some t ≡ some u → VerdictRight (t .sheet) (t .ranks) l v
+        → VerdictRight (u .sheet) (u .ranks) l v
+    taken-right l v t u q r = let y : t ≡ u = cc in subst (λ (x : Taken). VerdictRight (x .sheet) (x .ranks) l v) y r
+
 -- A LIST OF ONES
 
 ranks-same : (rank other : ℕ → ℕ) (m : ℕ) → ((i : ℕ) → i < m → rank i ≡ other i) → ranksBelow rank m ≡ ranksBelow other m
@@ -77,7 +103,7 @@ ones-loaded d s w =
     held = ap (padded mostPoints) (ranks-same (rankIn (some (ones s))) (rankIn none) (pointCount s) (rank-one s))
 
     same-desk : (a : LoadAnswer) → loadedDesk a d s (some (ones s)) ≡ loadedDesk a d s none
-    same-desk Accepted = λ i. record { held = heldOf s (held i) (ones-best s i); last = d .last }
+    same-desk Accepted = λ i. withHeld d (heldOf s (held i) (ones-best s i))
     same-desk (Refused k) = refl
 
     same : (a : LoadAnswer) → loadResult d s (some (ones s)) a ≡ loadResult d s none a

@@ -35,7 +35,7 @@ pub struct Desk {
     pub last: u16,
 }
 
-// What load answers: the sheet is accepted, or refused with the number of the first no.
+// What load and load_ranked answer: the sheet is accepted, or refused with the number of the first no.
 pub enum LoadAnswer {
     Accepted,
     Refused(u8),
@@ -90,7 +90,7 @@ impl Desk {
         load_with(self, sheet, false, b"", workspace)
     }
 
-    // Loads a sheet with the ranks of a list.
+    // Loads a sheet with the ranks of a list; all else is as with load.
     pub fn load_ranked(self, sheet: &[u8], ranks: &[u8], workspace: &mut [u16]) -> LoadResult
         ensures { λ r. ⌜ Loading self (now (sheet .entry)) (some (now (ranks .entry))) (now (workspace .entry)) r
             (now (workspace .exit)) ⌝ }

@@ -108,10 +108,8 @@ fn with_held(desk: Desk, held: Held) -> Desk
 fn refused_load(desk: Desk, no: u8) -> LoadResult
     ensures { λ r. ⌜ (r .desk ≡ desk) × (r .answer ≡ LoadAnswer.Refused no) ⌝ }
 {
-    LoadResult {
-        desk,
-        answer: LoadAnswer::Refused(no),
-    }
+    let answer = LoadAnswer::Refused(no);
+    LoadResult { desk, answer }
 }
 
 // Makes the best plate of the sheet, by the rank list if one is lent.

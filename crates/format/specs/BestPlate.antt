@@ -14,6 +14,7 @@ use Rattle.format.specs.Plate.{plateOf, bestChoiceOf, bestPlate}
 use Rattle.format.specs.Accepted.{Accepted}
 use Rattle.format.specs.PlateAgree.{plate-agree}
 
+-- "The optimum is shown for ranks in general" (document 02 (e)): position i has the rank `rank i`, any number.
 module _ (s : List ℕ) (rank : ℕ → ℕ) (a : Accepted s) (f : Feasible (pointsOf s)) where
   -- IT IS PREFERRED
   pub best-preferred : Preferred (pointsOf s) rank (bestChoice (pointsOf s) rank)

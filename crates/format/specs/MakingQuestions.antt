@@ -40,7 +40,7 @@ outputFits s room = leb (12 + 8 * pointCount s) room
 abbrev pub choiceNo : List ℕ → ℕ
 choiceNo s = ask (feasibleB (pointsOf s)) 61 0
 
--- All these questions, 21 by its answer `fits`, and then 61: 0 if there is no no.
+-- The questions of askedNo, and then 61: 0 if there is no no.
 unfoldable pub choosingNo : List ℕ → Option (List ℕ) → Bool → ℕ → ℕ
 choosingNo s r fits cells = thenNo (askedNo s r fits cells) (choiceNo s)
 
@@ -61,8 +61,8 @@ loadNo s r cells = thenNo (loadAskedNo s r cells) (choiceNo s)
 abbrev pub workspaceAfter : ℕ → List ℕ → List ℕ
 workspaceAfter k w = cond (eqb k 0 || eqb k 61) (replicate (length w) 0) w
 
--- "When a plate is made, bytes past its end are untouched", and on a refusal all bytes are, 61 included. The output o after a making of s
--- whose number is k.
+-- "When a plate is made, bytes past its end are untouched", and on a refusal all bytes are, 61 included. The output o after a making of s,
+-- with the rank list r or none, whose number is k.
 abbrev pub outputAfter : ℕ → List ℕ → Option (List ℕ) → List ℕ → List ℕ
 outputAfter k s r o = cond (eqb k 0) (bestPlate s r ++ drop (length (bestPlate s r)) o) o
 
@@ -99,12 +99,13 @@ none-making s r room cells =
     (none-then (none-then (none-sheet s) (none-ask 21 (omega arith) (dec-le _ _) (none-workspace cells))) (none-ranks (pointCount s) r))
     (λ a. none-choice s (a .0 .0))
 
--- all of a load's
+-- a load's before 61
 pub none-load-asked : (s : List ℕ) (r : Option (List ℕ)) (cells : ℕ)
     → NoneOf (loadAskedNo s r cells) ((Accepted s × ((workspaceCells ≤ cells) × Unit {0})) × RightRanks (pointCount s) r)
 unfolding loadAskedNo
 none-load-asked s r cells = none-then (none-then (none-sheet s) (none-workspace cells)) (none-ranks (pointCount s) r)
 
+-- all of a load's
 pub none-load : (s : List ℕ) (r : Option (List ℕ)) (cells : ℕ) → NoneOf (loadNo s r cells)
     (((Accepted s × ((workspaceCells ≤ cells) × Unit {0})) × RightRanks (pointCount s) r) × (Feasible (pointsOf s) × Unit {0}))
 unfolding loadNo

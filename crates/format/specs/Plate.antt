@@ -38,8 +38,8 @@ outsideSection s S = let l = outside (pointsOf s) S in length l ∷ pairs (place
 unfoldable pub plateOf : List ℕ → Choice → List ℕ
 plateOf s S = s ++ insideSection s S ++ outsideSection s S
 
--- "The best choice is then the valid one with the greatest sum of ranks inside, with ties as in the preceding request" (document 02 (e)): of
--- those the preferred one (labeling's Best.antt has the sentence).
+-- "The best choice is then the valid one with the greatest sum of ranks inside, with ties as in the preceding request" (document 02 (e)):
+-- of those the preferred one (labeling's Best.antt has the sentence).
 abbrev pub bestChoiceOf : List ℕ → Option (List ℕ) → Choice
 bestChoiceOf s r = bestChoice (pointsOf s) (rankIn r)
 

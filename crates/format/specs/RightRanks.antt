@@ -2,7 +2,7 @@
 use mathlib.Core.Path.{_≡_}
 use mathlib.Core.List.{List}
 use mathlib.Core.Option.{Option, none, some}
-use Prim.Native.Nat.{ℕ, _+_, _≤_, _<_}
+use Prim.Native.Nat.{ℕ, _+_, _<_}
 use lib.ListN.{length, getD}
 use native.Mathlib.Omega.{arith}
 use Rattle.labeling.specs.Decide.{Decides, dec-lt, dec-eq, dec-and}
@@ -29,6 +29,11 @@ none-ranks n none = none-left
 none-ranks n (some r) =
     none-ask 62 (omega arith) (dec-rank-count n r)
     (none-ask 63 (omega arith) (dec-every _ (λ i. UpTo 9 (rankIn (some r) i)) n (λ i. dec-upTo 9 (rankIn (some r) i))) none-left)
+
+-- no list is right
+pub none-right : (n : ℕ) → RightRanks n none
+unfolding RightRanks
+none-right n = tt
 
 -- each rank is 1 to 9, with or without a list
 pub ranks-up-to : (n : ℕ) (r : Option (List ℕ)) → RightRanks n r → (i : ℕ) → i < n → UpTo 9 (rankIn r i)

@@ -18,7 +18,7 @@ use Rattle.format.specs.Sizes.{workspaceCells}
 use Rattle.format.specs.Sheet.{frameCount, mapWidth, mapHeight, labelWidth, labelHeight, pointCount, callNumber, column, row}
 use Rattle.format.specs.Sheet.{pointsOf, ask, thenNo, upTo, bothUpTo, onMap, sameCall, samePixel, unlikeEarlier, pointNo, pointsNo}
 use Rattle.format.specs.Sheet.{questionsNo, sheetNo, plateSheetNo}
-use Rattle.format.specs.Accepted.{Accepted, SamePixel, none-sheet, dec-unlike}
+use Rattle.format.specs.Accepted.{Accepted, SamePixel, dec-unlike}
 use Rattle.format.specs.Asking.{ask-has, then-has, ask-most, then-most}
 use Rattle.format.specs.RankList.{rankCountRight, ranksAllowed, ranksNo}
 use Rattle.format.specs.MakingQuestions.{workspaceNo, roomNo, askedNo, outputFits, choiceNo, choosingNo, makingNo, loadAskedNo}
@@ -65,7 +65,7 @@ unfolding roomNo
 room-most s fits cells =
     then-most 22 (sheetNo s) _ (omega (arith, sheet-most s)) (ask-most fits 22 21 _ (omega arith) (workspace-most cells))
 
--- nor has the rank list's question the number 61
+-- nor have the rank list's questions the number 61
 abbrev Other : ℕ → Type 0
 Other k = k ≡ 61 → ⊥
 

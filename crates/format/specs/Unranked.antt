@@ -1,21 +1,23 @@
 -- "Without a list every rank is 1 and all earlier answers hold" (document 02 (e)); and a lent list of ones is like none. Assumes nothing.
-use mathlib.Core.Path.{_≡_, refl, sym, ap, _∙_}
-use mathlib.Core.Bool.{Bool}
+use mathlib.Core.Path.{_≡_, refl, sym, ap}
 use mathlib.Core.List.{List, _∷_}
-use mathlib.Core.Option.{Option, none, some}
+use mathlib.Core.Option.{none, some}
 use Prim.Native.Nat.{ℕ, suc, _+_, _<_}
 use lib.ListN.{length, replicate, length-replicate, getD-replicate}
 use borrow.Author.Tests.{eqb-true}
 use lib.Dec.{eqb}
 use native.Mathlib.Omega.{arith}
-use Rattle.labeling.specs.Best.{oneEach, bestSum, bestCount, bestChoice}
+use Rattle.labeling.specs.Best.{oneEach, bestSum, bestCount, bestChoice, Preferred, Feasible}
 use Rattle.labeling.specs.SameWeights.{best-sum-same, best-choice-same}
 use Rattle.labeling.specs.Decide.{decide}
 use Rattle.format.specs.Sheet.{pointCount, pointsOf, thenNo, sheetNo}
 use Rattle.format.specs.RankList.{rankIn, ranksNo}
+use Rattle.format.specs.Accepted.{Accepted}
+use Rattle.format.specs.BestPlate.{best-preferred}
 use Rattle.format.specs.RightRanks.{RightRanks, none-ranks}
 use Rattle.format.specs.Plate.{plateOf, bestPlate}
-use Rattle.format.specs.MakingQuestions.{workspaceNo, roomNo, askedNo, outputFits, choiceNo, choosingNo, makingNo, loadAskedNo, loadNo}
+use Rattle.format.specs.MakingQuestions.{workspaceNo, roomNo, askedNo, outputFits, choiceNo, choosingNo, makingNo}
+use Rattle.format.specs.MakingQuestions.{loadAskedNo, loadNo}
 
 -- WITHOUT A LIST: the number of a making and of a load is that of the questions of document 01 and document 02 (c), the plate that of the
 -- preferred choice by count, and the best sum the best count.
@@ -24,6 +26,8 @@ pub record WithoutList (s : List ℕ) : Type 0 where
   pub loading : (cells : ℕ) → loadNo s none cells ≡ thenNo (thenNo (sheetNo s) (workspaceNo cells)) (choiceNo s)
   pub plate : bestPlate s none ≡ plateOf s (bestChoice (pointsOf s) oneEach)
   pub best : bestSum (pointsOf s) (rankIn none) ≡ bestCount (pointsOf s)
+  -- "the unranked case following from it"
+  pub preferred : Accepted s → Feasible (pointsOf s) → Preferred (pointsOf s) oneEach (bestChoice (pointsOf s) oneEach)
 
 then-none : (k : ℕ) → thenNo k 0 ≡ k
 then-none k = decide (eqb k 0) (λ e. rw e (sym (eqb-true k 0 e))) (λ e. rw e)
@@ -35,6 +39,7 @@ without-list s = record {
   loading = λ cells. ap (λ k. thenNo k (choiceNo s)) (then-none (thenNo (sheetNo s) (workspaceNo cells)));
   plate = refl;
   best = refl;
+  preferred = best-preferred s oneEach;
 }
 
 -- A LIST OF ONES beside the sheet s

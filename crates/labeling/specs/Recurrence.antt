@@ -7,7 +7,7 @@ use lib.Dec.{ltb, leb, eqb}
 
 -- The points 1 to n in height order: by row, then by column, ascending. 0 is the lower boundary and n + 1 the upper one.
 -- atRank t is the point of rank t in right order (by column, then by row, ascending; 0 to n - 1), and rank is its inverse.
--- A point that isn't allowed may not be inside.
+-- A point that isn't allowed may not be inside. (A rank here is a place in right order; a rank of document 02 (e) is part of a weight.)
 pub record Heights : Type 0 where
   pub n : ℕ
   pub w : ℕ

@@ -1,4 +1,4 @@
--- Weights matter on the sheet's positions alone: where two weigh the same there, the best and the preferred choice are the same. Assumes
+-- Weights matter on the sheet's positions alone: where two weightings agree there, the best and the preferred choice are the same. Assumes
 -- nothing.
 use mathlib.Core.Path.{_≡_, refl}
 use mathlib.Core.Bool.{true, false}
@@ -32,7 +32,7 @@ module _ (P : Points) (v u : ℕ → ℕ) (a : (i : ℕ) → i < P .n → v i �
         choice-from-same m (suc k) (put S k false),
       )
 
-  pub best-same : best P v ≡ best P u
+  best-same : best P v ≡ best P u
   unfolding best
   best-same = from-same (P .n) 0 (λ i. false)
 

@@ -79,7 +79,7 @@ refused-16 = refl
 
 -- A desk with a sheet of 12 points whose best sum is 10, and one of 32 points of rank 9 that are all inside.
 abbrev twelve : Desk
-twelve = withHeld fresh (heldOf (1 ∷ 20 ∷ 0 ∷ 10 ∷ 0 ∷ 4 ∷ 0 ∷ 2 ∷ 0 ∷ 12 ∷ []) (replicate 32 1) 10)
+twelve = withHeld fresh (heldOf (1 ∷ 20 ∷ 0 ∷ 10 ∷ 0 ∷ 4 ∷ 0 ∷ 2 ∷ 0 ∷ 12 ∷ []) (replicate 12 1 ++ replicate 20 0) 10)
 
 abbrev greatest : Desk
 greatest = withHeld fresh (heldOf (1 ∷ 20 ∷ 0 ∷ 10 ∷ 0 ∷ 4 ∷ 0 ∷ 2 ∷ 0 ∷ 32 ∷ []) (replicate 32 9) 288)

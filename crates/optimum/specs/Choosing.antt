@@ -42,8 +42,8 @@ nothingChosen k = record {
 abbrev pub chosenOf : List ℕ → (ℕ → ℕ) → ℕ → BestChoice
 chosenOf s rank k = cond (eqb k 0) (splitOf s (bestChoice (pointsOf s) rank)) (nothingChosen k)
 
--- THE PROMISE of best_choice, on any sheet s, any rank list l or none, any answer `fits` to 21 and any workspace w: what it answers, and the
--- workspace afterwards.
+-- THE PROMISE of best_choice, on any sheet s, any rank list l or none, any answer `fits` to 21 and any workspace w: what it answers, and
+-- the workspace afterwards.
 pub record Choosing (s : List ℕ) (l : Option (List ℕ)) (fits : Bool) (w : List ℕ) (r : BestChoice) (w′ : List ℕ) : Type 0 where
   pub answer : r ≡ chosenOf s (rankIn l) (choosingNo s l fits (length w))
   pub workspace : w′ ≡ workspaceAfter (choosingNo s l fits (length w)) w

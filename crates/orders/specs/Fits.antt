@@ -17,8 +17,8 @@ accepted-fits s l e q =
       few = p .few;
       wide = p .label-width .0;
       high = p .label-height .0;
-      column-below = λ i l. omega (arith, p .on-map i l, p .map-width);
-      row-below = λ i l. omega (arith, p .on-map i l, p .map-height);
+      column-below = λ i b. omega (arith, p .on-map i b, p .map-width);
+      row-below = λ i b. omega (arith, p .on-map i b, p .map-height);
       pixels-apart = p .pixels .apart;
       ranks-most = λ i b. ranks-up-to (pointCount s) l (none-ranks (pointCount s) l .is q) i b .1;
     }

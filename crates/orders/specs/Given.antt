@@ -2,12 +2,12 @@
 use mathlib.Core.Path.{_≡_, refl}
 use mathlib.Core.Bool.{Bool, true, false, cond}
 use mathlib.Core.List.{List}
-use Prim.Native.Nat.{ℕ, _≤_}
+use Prim.Native.Nat.{ℕ, _+_, _*_, _≤_}
 use lib.Dec.{eqb}
 use native.Mathlib.Omega.{arith}
 use Rattle.labeling.specs.Marks.{labelOnMapB}
 use Rattle.labeling.specs.Tests.{dec-label-on-map}
-use Rattle.labeling.specs.TieBreak.{tieBroken, tie-pos, tie-most}
+use Rattle.labeling.specs.TieBreak.{tieBreak, tieBroken, tie-pos, tie-most}
 use Rattle.labeling.specs.Positions.{Permits}
 use Rattle.format.specs.Sheet.{pointsOf}
 
@@ -28,6 +28,11 @@ abbrev pub permission : Bool → ℕ
 permission b = cond b 1 0
 
 -- LAWS, which are all that is used of the weights and the permissions
+
+-- As a program computes it.
+pub weight-is : (rank : ℕ → ℕ) (p : ℕ) → weightOf rank p ≡ rank p * 4294967296 + tieBreak p
+unfolding weightOf tieBroken
+weight-is rank p = refl
 
 -- They break ties (labeling's TieBreak.antt): a best choice by them is the preferred one by ranks.
 pub weight-breaks : (rank : ℕ → ℕ) → weightOf rank ≡ tieBroken rank

@@ -16,7 +16,7 @@ rowField = 34
 abbrev pub firstRow : ℕ
 firstRow = 35
 
--- The rank of each point in right order.
+-- The right rank of each point: its place from the left.
 abbrev pub rankField : ℕ
 rankField = 68
 

@@ -4,23 +4,26 @@ use mathlib.Core.Path.{_≡_, refl, sym, ap, _∙_}
 use mathlib.Core.Bool.{false}
 use mathlib.Core.List.{List}
 use mathlib.Core.Option.{Option}
-use Prim.Native.Nat.{ℕ}
+use Prim.Native.Nat.{ℕ, _≤_, _<_}
 use lib.ListN.{length, take}
+use Rattle.format.specs.Sheet.{pointCount}
+use Rattle.format.specs.Accepted.{UpTo}
 use Rattle.format.specs.MakingQuestions.{makingNo}
 use Rattle.plate_maker.specs.Making.{makeOutcomeOf}
 use Rattle.plate_maker.specs.declared.MakeAnswer.the-variants.{Made}
-use Rattle.desk.specs.Desk.{fresh, loadOf, markOf}
+use Rattle.desk.specs.Desk.{fresh, rankHeld, loadOf, markOf}
 use Rattle.desk.specs.declared.Desk.{Desk}
 use Rattle.desk.specs.declared.MarkAnswer.{MarkAnswer}
 use Rattle.desk.specs.declared.MarkAnswer.the-variants.{Marked, Refused}
 use Rattle.desk.specs.declared.Verdict.the-variants.{Valid, Clash}
 use Rattle.desk.specs.Calls.{Call, load, mark, Calls, noCalls, _andThen_, deskAfter, PlateMade}
-use Rattle.desk.specs.DemandThreeProof.{spare-zero as desk-spare-zero}
+use Rattle.desk.specs.DemandThreeProof.{spare-zero as desk-spare-zero, best-most as desk-best-most, ranks-held as desk-ranks-held}
 use Rattle.plate_export.specs.declared.MakeResult.{MakeResult}
 use Rattle.plate_export.specs.Exported.{MakingExported}
 use Rattle.plate_export.specs.ExportedDesk.{loadReply, answerReply, markReply}
 
--- The desk that a call hands back: the terms of the contracts of desk_load and desk_load_ranked, by whether a list is lent, and of desk_mark.
+-- The desk that a call hands back: the terms of the contracts of desk_load and desk_load_ranked, by whether a list is lent, and of
+-- desk_mark.
 abbrev pub handedBack : Desk → Call → Desk
 handedBack d (load s r w) = loadReply (loadOf d s r w) .desk
 handedBack d (mark l) = markReply (markOf d l) .desk
@@ -48,6 +51,14 @@ exported-desk-after (calls andThen mark l) =
 pub spare-zero : (calls : Calls) → exportedAfter calls .held .spare ≡ 0
 spare-zero calls = ap (λ d. d .held .spare) (exported-desk-after calls) ∙ desk-spare-zero calls
 
+-- Its best is at most 288, 32 points of rank 9, and its ranks are 1 to 9, after any calls.
+pub best-most : (calls : Calls) → exportedAfter calls .held .best ≤ 288
+best-most calls = rw (exported-desk-after calls) (desk-best-most calls)
+
+pub ranks-held : (calls : Calls) (p : ℕ) → p < pointCount (exportedAfter calls .held .sheet)
+    → UpTo 9 (rankHeld (exportedAfter calls .held .ranks) p)
+ranks-held calls p l = rw (exported-desk-after calls) (desk-ranks-held calls p (rw (exported-desk-after calls) at l))
+
 -- Where the number of plate_make or plate_make_ranked is 0, what it wrote is a plate made, in the words of demand 3.
 pub exported-plate-made : {s : List ℕ} {l : Option (List ℕ)} {o w o′ w′ : List ℕ} (r : MakeResult) → MakingExported s l o w r o′ w′
     → r .number ≡ 0 → PlateMade s l (take (r .written) o′)
@@ -60,7 +71,8 @@ exported-plate-made {s} {l} {o} {w} {o′} {w′} r m z =
       output-after = o′;
       workspace-after = w′;
       made = record {
-        outcome = rw (← y) (ap (λ n. record { refused = false; no = 0; written = n }) (m .length ∙ ap (λ k. makeOutcomeOf s l k .written) z));
+        outcome =
+            rw (← y) (ap (λ n. record { refused = false; no = 0; written = n }) (m .length ∙ ap (λ k. makeOutcomeOf s l k .written) z));
         workspace = rw (← m .first-no) (m .workspace);
         output = rw (← m .first-no) (m .output);
       };

@@ -28,7 +28,8 @@ pub extern "C" fn plate_check_sheet(sheet: &[u8]) -> u32
     }
 }
 
-// What plate_make and plate_make_ranked answer: the number of the first no, 0 where a plate is made; and the written length, 0 on a refusal.
+// What plate_make and plate_make_ranked answer: the number of the first no, 0 where a plate is made; and the written length, 0 on a
+// refusal.
 #[repr(C)]
 pub struct MakeResult {
     pub number: u32,
@@ -116,7 +117,7 @@ pub extern "C" fn plate_listing(plate: &[u8], buffer: &mut [u8]) -> usize
     lines::listing(plate, buffer)
 }
 
-// What desk_load and desk_load_ranked answer: the desk after it, and the number of the first no, 0 where the sheet is loaded.
+// What desk_load and desk_load_ranked answer: the desk after the load, and the number of the first no, 0 where the sheet is loaded.
 #[repr(C)]
 pub struct DeskLoadResult {
     pub desk: Desk,
@@ -124,8 +125,8 @@ pub struct DeskLoadResult {
 }
 
 // What desk_mark answers: the desk after it, and the number of the first no, 0 where the list is marked. Then the list's number, and the
-// verdict: 1 for valid, with the sum of ranks and the shortfall; 2 for a clash of two labels, 3 for one of a label and a leader, 4 for a label that leaves
-// the map, 5 for a clash of two leaders, with the two positions. All else is 0.
+// verdict: 1 for valid, with the sum of ranks and the shortfall; 2 for a clash of two labels, 3 for one of a label and a leader, 4 for a
+// label that leaves the map, 5 for a clash of two leaders, with the two positions. All else is 0.
 #[repr(C)]
 pub struct DeskMarkResult {
     pub desk: Desk,

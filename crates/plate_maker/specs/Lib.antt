@@ -1,7 +1,7 @@
--- WHAT IS PROMISED of make, and demand 2 above it.
+-- WHAT IS PROMISED of make and make_ranked, and demand 2 above it.
 pub mod Making
 pub mod DemandTwo
--- Laws that read the promise, for all who call make.
+-- Laws that read the promise, for all who call them; and that a list of ones answers like none.
 pub mod MakingLaws
 -- BOOKKEEPING: a plate written from two lists, and that it is the plate of the choice.
 pub mod Writing

@@ -18,7 +18,7 @@ pub record MakeOutcome : Type 0 where
   pub no : ℕ
   pub written : ℕ
 
--- The cases of make's answer: "The first no ends the call with its number and a written length of 0".
+-- The cases of a making's answer: "The first no ends the call with its number and a written length of 0".
 abbrev pub makeOutcome : MakeAnswer → MakeOutcome
 makeOutcome (Made written) = record { refused = false; no = 0; written = written }
 makeOutcome (Refused k) = record { refused = true; no = k; written = 0 }

@@ -1,4 +1,4 @@
--- The promise in its two cases. Assumes nothing.
+-- The promise in its two cases, and with a list of ones. Assumes nothing.
 use mathlib.Core.Path.{_≡_, sym, ap, _∙_}
 use mathlib.Core.Bool.{true≢false}
 use mathlib.Core.List.{List, _++_}
@@ -101,5 +101,6 @@ module _ {s : List ℕ} {r : Option (List ℕ)} {o w o′ w′ : List ℕ} {k : 
       let e : length o′ ≡ length p + length (drop (length p) o) = ap length made-output ∙ length-append p (drop (length p) o) in
       omega arith
 
-pub made-within : {s : List ℕ} {r : Option (List ℕ)} {o w o′ w′ : List ℕ} {answer : MakeAnswer} {k : ℕ} → Making s r o w answer o′ w′ → answer ≡ Made k → k ≤ length o′
+pub made-within : {s : List ℕ} {r : Option (List ℕ)} {o w o′ w′ : List ℕ} {answer : MakeAnswer} {k : ℕ}
+    → Making s r o w answer o′ w′ → answer ≡ Made k → k ≤ length o′
 made-within m e = within (rw e at m)

@@ -9,7 +9,7 @@ use writing::write_split;
 
 mod writing;
 
-// What make answers: a plate is made, with its written length; or refused, with the number of the first no.
+// What make and make_ranked answer: a plate is made, with its written length; or refused, with the number of the first no.
 pub enum MakeAnswer {
     Made(usize),
     Refused(u8),

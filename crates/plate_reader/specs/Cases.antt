@@ -1,5 +1,5 @@
--- Document 01's cases P1 to P10, labels at the map's edges (document 02 (a)), stacked outer labels (document 02 (b)), shared rows (document
--- 02 (c)), ties (document 02 (d)) and ranks (document 02 (e)), from the sheet's bytes: one table, one theorem. What the theorem says is in the words of labeling
+-- Document 01's cases P1 to P10, and of document 02 labels at the map's edges (a), stacked outer labels (b), shared rows (c), ties (d) and
+-- ranks (e), from the sheet's bytes: one table, one theorem. What the theorem says is in the words of labeling
 -- (valid over pixels) and of format's Plate.antt (the plate of a choice, the best plate); the tests only compute it. Assumes nothing.
 use mathlib.Core.Path.{_≡_, refl, sym, ap, _∙_}
 use mathlib.Core.Bool.{Bool, true, false, cond, _&&_}
@@ -29,8 +29,8 @@ use Rattle.clash.specs.FirstClash.{pairClash, ownClash, firstOf, laterClash, cl
 use Rattle.clash.specs.ClashPixels.{Named, first-clash-right}
 use Rattle.plate_reader.specs.PlateQuestions.{sheetOf, insideList, outsidePairs, sectionsFit, pairsRight, sectionsNo, plateNo}
 
--- What a case says of its choice: that its plate is the one that is made, with this rank list or none; that it is valid; or its first clash,
--- the two positions and the kind.
+-- What a case says of its choice: that its plate is the one that is made, with this rank list or none; that it is valid; or its first
+-- clash, the two positions and the kind.
 pub data Expected : Type 0 where
   madeWith : (ranks : Option (List ℕ)) → Expected
   valid : Expected
@@ -96,7 +96,7 @@ abbrev stairs : List ℕ
 stairs = sheet 4 2 4 (at 1 8 2 (at 2 9 1 (at 3 7 3 (at 4 6 4 []))))
 
 -- Label 4 by 2, points (8,3), (6,4), (4,5): the second's label meets the others', which don't meet each other.
-abbrev pub oneOrTwo : List ℕ
+abbrev oneOrTwo : List ℕ
 oneOrTwo = sheet 4 2 3 (at 1 8 3 (at 2 6 4 (at 3 4 5 [])))
 
 -- The same points, (6,4) first.
@@ -275,13 +275,15 @@ cases =
       expected = clashes 0 0 Overhang;
       added = 1 ∷ 0 ∷ 2 ∷ 1 ∷ 0 ∷ 2 ∷ 1 ∷ [];
     } ∷
-    -- document 02 (e): P5's two best counts, with the ranks 1 and 2
+    -- document 02 (e): document 01's tie of counts, (4,3) and (3,4), with the ranks 1 and 2: the second is inside
     record {
       sheet = sheet 4 2 2 (at 1 4 3 (at 2 3 4 []));
       inside = 1 ∷ [];
       expected = madeWith (some (2 ∷ 1 ∷ 2 ∷ []));
       added = 1 ∷ 1 ∷ 1 ∷ 0 ∷ 0 ∷ [];
     } ∷
+    -- P10 with its list, the count byte alone
+    record { sheet = sheet 4 2 0 []; inside = []; expected = madeWith (some (0 ∷ [])); added = 0 ∷ 0 ∷ [] } ∷
     -- two of three without a list;
     record { sheet = oneOrTwo; inside = 0 ∷ 2 ∷ []; expected = made; added = 2 ∷ 0 ∷ 2 ∷ 1 ∷ 1 ∷ 0 ∷ [] } ∷
     -- a rank 9 beats two of 1;
@@ -424,7 +426,8 @@ all-pass : T (eachB cases)
 unfolding twoBytes unlikeEarlier pointNo pointsNo questionsNo sheetNo plateSheetNo insideBelow insideSection
     pairs outsideSection plateOf among before insert outsideBelow outside nextMargin placedFrom placed conflictB
     apartB withinB validB every weightBelow weight put bestFrom best bestChoiceFrom bestChoice rankIn
-    rankCountRight ranksAllowed ranksNo bestPlate pairClash ownClash firstOf laterClash clashOf firstClash sheetOf insideList outsidePairs sectionsFit ascending pairsRight sectionsNo plateNo
+    rankCountRight ranksAllowed ranksNo bestPlate pairClash ownClash firstOf laterClash clashOf firstClash
+    sheetOf insideList outsidePairs sectionsFit ascending pairsRight sectionsNo plateNo
 all-pass = tt
 
 T-is : (b : Bool) → T b → b ≡ true

@@ -52,7 +52,7 @@ fn run_load(desk: Desk, sheet: &[u8], line: &mut [u8]) -> Ran
     load_ran(result, line)
 }
 
-// Loads a sheet with a rank list.
+// Loads a sheet with a rank list. The workspace is zeros.
 fn run_ranked_load(desk: Desk, sheet: &[u8], ranks: &[u8], line: &mut [u8]) -> Ran
     ensures { λ r. ⌜ Runs (loadCall desk (now (sheet .entry)) (some (now (ranks .entry)))) (now (line .entry)) r (now (line .exit)) ⌝ }
 {

@@ -1,4 +1,4 @@
-// The calls without a desk, and their lines on standard output: a sheet made into a plate, and a plate read.
+// The calls without a desk, and their lines on standard output: a sheet made into a plate, with a rank list or without, and a plate read.
 ghost use mathlib.Core.Path.{_≡_};
 ghost use Prim.Native.Nat.{ℕ, _≤_};
 ghost use lib.ListN.{length};

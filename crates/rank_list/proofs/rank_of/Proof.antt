@@ -16,7 +16,8 @@ byte-at-requires c κs = search needs
 
 returns-2 : tie.Need-returns-2
 returns-2 c =
-    let args = c .before .before .before .args in rank-with (args .ranked) (args .ranks .now) _ _ (not-false _ (c .before .if1 .left)) (c .byte-at .ensures)
+    let args = c .before .before .before .args in
+    rank-with (args .ranked) (args .ranks .now) _ _ (not-false _ (c .before .if1 .left)) (c .byte-at .ensures)
 
 pub rank-of-spec : {M : Type 1} → statement M
 rank-of-spec = tie.close (tie.spec returns add-byte-at byte-at-requires returns-2)

@@ -48,7 +48,8 @@ array-share-prefix-second c =
 
 slice-aggregate-answer-2 : tie.Need-slice-aggregate-answer-2 Inv-loop μ-loop
 slice-aggregate-answer-2 c =
-    call-counts _ _ _ _ _ _ _ (c .before .before .before .before .before .read-call .ensures) (c .before .before .before .kind .given .1) .1 .1
+    call-counts _ _ _ _ _ _ _ (c .before .before .before .before .before .read-call .ensures)
+    (c .before .before .before .kind .given .1) .1 .1
 
 answer-requires : tie.Need-answer-requires Inv-loop μ-loop
 answer-requires c κs = search needs

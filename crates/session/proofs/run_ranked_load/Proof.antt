@@ -18,7 +18,8 @@ same-length c = search needs
 
 returns : tie.Need-returns
 returns c =
-    rw (← loading-exactly _ _ _ _ _ _ .0 (c .before .before .before .before .before .load-ranked .ensures) .0) (c .before .before .load-ran .ensures)
+    rw (← loading-exactly _ _ _ _ _ _ .0 (c .before .before .before .before .before .load-ranked .ensures) .0)
+    (c .before .before .load-ran .ensures)
 
 pub run-ranked-load-spec : {M : Type 1} → statement M
 run-ranked-load-spec =

@@ -43,7 +43,8 @@ point-count-requires c κs = search needs
 
 padded-ranks-requires : tie.Need-padded-ranks-requires
 padded-ranks-requires c κs =
-    let f = made-few _ _ _ _ _ _ _ (blank-of (made-of c) .blank-plate .ensures) (made-of c .make-with .ensures) _ (told-of c .enum-told .given .1) in
+    let told = told-of c .enum-told .given .1 in
+    let f = made-few _ _ _ _ _ _ _ (blank-of (made-of c) .blank-plate .ensures) (made-of c .make-with .ensures) _ told in
     omega (arith, f, c .point-count .ensures)
 
 slice-aggregate-inside-sum : tie.Need-slice-aggregate-inside-sum

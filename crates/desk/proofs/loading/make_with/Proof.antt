@@ -13,7 +13,8 @@ same-length-2 : tie.Need-same-length-2
 same-length-2 c = search needs
 
 returns : tie.Need-returns
-returns c = rw (c .before .before .before .before .before .before .before .if1 .taken) (c .before .before .before .before .make-ranked .ensures)
+returns c =
+    rw (c .before .before .before .before .before .before .before .if1 .taken) (c .before .before .before .before .make-ranked .ensures)
 
 make-requires : tie.Need-make-requires
 make-requires c κs = search needs

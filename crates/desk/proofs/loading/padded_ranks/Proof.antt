@@ -8,7 +8,7 @@ use native.Mathlib.Numerals.{add-one}
 use Rattle.format.specs.Sizes.{mostPoints}
 use Rattle.format.specs.Padded.{padded}
 use Rattle.format.specs.RankList.{rankIn, lent}
-use Rattle.desk.specs.Desk.{noRanks, ranksBelow}
+use Rattle.desk.specs.Desk.{ranksBelow}
 use Rattle.desk.specs.Loaded.{ranks-more}
 use Rattle.desk.proofs.Laws.{no-ranks-padded}
 use Rattle.desk.proofs.loading.padded_ranks.Statement.{statement}

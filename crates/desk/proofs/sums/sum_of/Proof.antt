@@ -1,6 +1,6 @@
 -- `desk::sums::sum_of` meets its contract. Assumes nothing.
-use mathlib.Core.Path.{_≡_, ap, sym, _∙_}
-use mathlib.Core.List.{List, [], _∷_, _++_}
+use mathlib.Core.Path.{_≡_, ap, _∙_}
+use mathlib.Core.List.{List, [], _∷_}
 use Prim.Native.Nat.{ℕ, _+_, _*_, _-_, _≤_, _<_}
 use lib.ListN.{length, getD, take}
 use lib.Seq.{take-suc, take-all}
@@ -32,7 +32,8 @@ none-yet rank [] = omega arith
 none-yet rank (p ∷ l) = omega arith
 
 loop-holds : tie.Need-loop-holds Inv-loop μ-loop
-loop-holds c = (search needs, search needs, none-yet (rankHeld (c .before .before .args .ranks .now)) (c .before .before .args .positions .now))
+loop-holds c =
+    let args = c .before .before .args in (search needs, search needs, none-yet (rankHeld (args .ranks .now)) (args .positions .now))
 
 shared-slice-read-rank-at : tie.Need-shared-slice-read-rank-at Inv-loop μ-loop
 shared-slice-read-rank-at c = search needs

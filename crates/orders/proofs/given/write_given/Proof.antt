@@ -3,9 +3,8 @@ use mathlib.Core.Path.{_≡_, _∙_, ap}
 use Prim.Native.Nat.{ℕ, _≤_, _<_, _+_, _-_}
 use lib.ListN.{getD}
 use Rattle.orders.specs.Layout.{firstPosition}
-use Rattle.labeling.specs.TieBreak.{tieBroken}
 use Rattle.format.specs.RankList.{rankIn, lent}
-use Rattle.orders.specs.Given.{weightOf, permitted, permission}
+use Rattle.orders.specs.Given.{weightOf, weight-is, permitted, permission}
 use Rattle.orders.specs.GivenCells.{GivenCells, given-none, given-more}
 use native.Mathlib.Omega.{arith}
 use borrow.Author.Needs.{needs}
@@ -23,12 +22,12 @@ loop-holds c = (omega arith, given-none _ _ _)
 
 -- The weight is that of the position's rank.
 weighed : (rank : ℕ → ℕ) {p q x w : ℕ} → w ≡ weightOf (λ _. x) p → x ≡ rank p → p ≡ q → w ≡ weightOf rank q
-unfolding weightOf tieBroken
-weighed rank a b e = rw (← e) (rw b at a)
+weighed rank {p} {q} {x} a b e = rw (← e) (omega (arith, a, weight-is (λ _. x) p, b, weight-is rank p))
 
 -- The positions are as they were at first.
 kept : (c : tie.At-loop Inv-loop μ-loop)
-    → getD (c .loop .heights) (firstPosition + c .loop .k) 0 ≡ getD (c .before .before .before .args .heights .now) (firstPosition + c .loop .k) 0
+    → getD (c .loop .heights) (firstPosition + c .loop .k) 0
+    ≡ getD (c .before .before .before .args .heights .now) (firstPosition + c .loop .k) 0
 kept c = c .loop .inv .1 .other (firstPosition + c .loop .k) (λ p q. omega arith) (λ p q. omega arith)
 
 position-after-requires : tie.Need-position-after-requires Inv-loop μ-loop
@@ -39,7 +38,8 @@ rank-of-requires : tie.Need-rank-of-requires Inv-loop μ-loop
 rank-of-requires c κs = search needs
 
 -- The position is one of the sheet's.
-placed : (c : tie.After-position-after Inv-loop μ-loop) → c .position-after .result < c .before .before .before .before .before .before .args .n
+placed : (c : tie.After-position-after Inv-loop μ-loop)
+    → c .position-after .result < c .before .before .before .before .before .before .args .n
 placed c =
     let start = c .before .before .before in
     omega (arith, c .position-after .ensures, kept start, start .before .before .before .pre .2 (start .loop .k) (omega arith))

@@ -9,7 +9,8 @@ enum-known-answer : tie.Need-enum-known-answer
 enum-known-answer c = search needs
 
 slice-aggregate-print-made : tie.Need-slice-aggregate-print-made
-slice-aggregate-print-made c = sym (length-take-le _ _ (c .before .before .before .before .before .pre _ (c .before .before .answer .given .1)))
+slice-aggregate-print-made c =
+    sym (length-take-le _ _ (c .before .before .before .before .before .pre _ (c .before .before .answer .given .1)))
 
 print-made-requires : tie.Need-print-made-requires
 print-made-requires c κs = search needs
