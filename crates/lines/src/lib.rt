@@ -16,9 +16,9 @@ ghost use Rattle.lines.specs.DeskLines.{refusalLine, loadedLine, loadLin
 ghost use Rattle.lines.specs.Writing.{Prints, PrintsListing};
 
 mod desk_lines;
+mod margins;
 mod plate_lines;
 mod points;
-mod sections;
 mod text;
 
 // Room for every line but those of a listing.

@@ -1,14 +1,14 @@
 // The listing of a plate.
+use crate::margins::columns_used;
 use crate::points::put_point;
-use crate::sections::columns_used;
-use crate::sections::inside_positions;
-use crate::sections::outside_pairs;
 use crate::text::put_end;
 use crate::text::put_number;
 use crate::text::put_word;
 use clash::choice_of;
 use format::point_count;
 use plate_reader::inside_count;
+use plate_reader::inside_positions;
+use plate_reader::outside_pairs;
 ghost use Prim.Native.Nat.{_+_, _≤_};
 ghost use lib.ListN.{length};
 ghost use Rattle.lines.specs.Rooms.{firstLineRoom, pointsRoom, listingRoom, mostPoints};

@@ -1,5 +1,5 @@
 // A point's line.
-use crate::sections::margin_of;
+use crate::margins::margin_of;
 use crate::text::put_decimal;
 use crate::text::put_end;
 use crate::text::put_number;

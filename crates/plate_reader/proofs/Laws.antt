@@ -4,8 +4,8 @@ use mathlib.Core.Bool.{Bool, true, false, not, _&&_}
 use mathlib.Core.List.{List, [], _∷_}
 use Prim.Native.Nat.{ℕ, suc, _+_, _*_, _-_, _≤_, _<_}
 use lib.Dec.{ltb, eqb}
-use lib.ListN.{length, getD, take, drop, length-drop, drop-of-length-le}
-use lib.Seq.{take-all, drop-cons}
+use lib.ListN.{length, getD, take, drop, drop-of-length-le}
+use lib.Seq.{drop-cons}
 use borrow.Author.Tests.{lt-ltb, le-ltb, eq-eqb, ne-eqb}
 use native.Mathlib.Numerals.{add-one}
 use native.Mathlib.Omega.{arith}
@@ -13,6 +13,7 @@ use Rattle.labeling.specs.Points.{Points, Choice, before, nextMargin}
 use Rattle.labeling.specs.Decide.{same}
 use Rattle.format.specs.Sheet.{pointCount, pointsOf, plateSheetNo}
 use Rattle.format.specs.Accepted.{none-plate-sheet}
+use Rattle.format.specs.Bytes.{all-after}
 use Rattle.format.specs.Plate.{choiceOf}
 use Rattle.format.specs.Ascending.{belowNext, ascending}
 use Rattle.clash.specs.ChoiceFlags.{held, flagsOf, flags-hold}
@@ -162,8 +163,7 @@ module _ (P : Points) (S : Choice) where
   pub pairs-rest : (b : List ℕ) (r : Bool) → 1 < length b → outsidePoint P S (getD b 0 0) ≡ true → getD b 1 0 ≡ 0
       → r ≡ pairsAfter P S (getD b 0 0) (getD b 1 0) (take (length b - 2) (drop 2 b)) → r ≡ pairsFollow P S b
   pairs-rest b r l e z q =
-      let all : length (drop 2 b) ≤ length b - 2 = rw (length-drop 2 b) (omega arith) in
-      rw (pairs-first b l, e, eq-eqb (getD b 1 0) 0 z) (q ∙ rw (take-all (length b - 2) (drop 2 b) all))
+      rw (pairs-first b l, e, eq-eqb (getD b 1 0) 0 z) (q ∙ rw (all-after 2 b))
 
 -- the walk over the parts of a plate
 pub walk-read : (p sheet list bytes : List ℕ) (flags : List Bool)

@@ -10,9 +10,8 @@ use format::questions_no;
 use format::row;
 use format::sheet_length;
 ghost use mathlib.Core.Path.{_≡_};
-ghost use mathlib.Core.Bool.{true};
-ghost use Prim.Native.Nat.{_+_, _≤_, _<_};
-ghost use lib.ListN.{length, getD, drop};
+ghost use Prim.Native.Nat.{_+_, _≤_, _<_, min};
+ghost use lib.ListN.{length, getD, take, drop};
 ghost use Rattle.labeling.specs.Points.{before};
 ghost use Rattle.format.specs.Sheet.{pointsOf, plateSheetNo, sheetLength};
 ghost use Rattle.format.specs.Ascending.{belowNext, ascending};
@@ -65,23 +64,42 @@ fn sheet_of(plate: &[u8]) -> &[u8]
     &plate[0..end]
 }
 
-// The position bytes of the inside section.
-fn inside_positions(plate: &[u8]) -> &[u8]
-    requires { ⌜ sectionsFit (now plate) ≡ true ⌝ }
-    ensures { λ r. ⌜ Stretch r (plate .entry) (insideStart (now (plate .entry))) (insideList (now (plate .entry))) ⌝ }
+// The bytes from a place on; of bytes that end before it, their empty end.
+fn bytes_after(bytes: &[u8], start: usize) -> &[u8]
+    ensures { λ r. ⌜ Stretch r (bytes .entry) (min start (length (now (bytes .entry)))) (drop start (now (bytes .entry))) ⌝ }
 {
-    let start = sheet_length(plate) + 1;
-    let end = outside_start(plate);
-    &plate[start..end]
+    let end = bytes.len();
+    if end < start {
+        return &bytes[end..];
+    }
+    &bytes[start..]
 }
 
-// The bytes after the outside count.
-fn outside_pairs(plate: &[u8]) -> &[u8]
-    requires { ⌜ sectionsFit (now plate) ≡ true ⌝ }
-    ensures { λ r. ⌜ now r ≡ outsidePairs (now (plate .entry)) ⌝ }
+// The first bytes, as many of them as there are.
+fn first_bytes(bytes: &[u8], count: usize) -> &[u8]
+    ensures { λ r. ⌜ Stretch r (bytes .entry) 0 (take count (now (bytes .entry))) ⌝ }
 {
-    let start = outside_start(plate) + 1;
-    &plate[start..]
+    if bytes.len() < count {
+        return bytes;
+    }
+    &bytes[0..count]
+}
+
+// The position bytes of the inside section, as far as they are there, of any bytes read as a plate.
+pub fn inside_positions(plate: &[u8]) -> &[u8]
+    ensures { λ r. ⌜ Stretch r (plate .entry) (min (insideStart (now (plate .entry))) (length (now (plate .entry))))
+        (insideList (now (plate .entry))) ⌝ }
+{
+    let rest = bytes_after(plate, sheet_length(plate) + 1);
+    first_bytes(rest, inside_count(plate) as usize)
+}
+
+// The bytes after the outside count, of any bytes read as a plate.
+pub fn outside_pairs(plate: &[u8]) -> &[u8]
+    ensures { λ r. ⌜ Stretch r (plate .entry) (min (outsideStart (now (plate .entry)) + 1) (length (now (plate .entry))))
+        (outsidePairs (now (plate .entry))) ⌝ }
+{
+    bytes_after(plate, outside_start(plate) + 1)
 }
 
 // The position at k is below the next, where there is one.

@@ -3,6 +3,7 @@ use borrow.Author.Needs.{needs}
 use mathlib.Core.Path.{_≡_, refl, sym, _∙_}
 use native.Mathlib.Omega.{arith}
 use Rattle.plate_reader.specs.PlateQuestions.{plateNo}
+use Rattle.plate_reader.specs.PlateSections.{dec-fit}
 use Rattle.plate_reader.proofs.Laws.{refused-list, refused-at, accepted-list, accepted-at, accepted-fits}
 use Rattle.plate_reader.proofs.inside_list.Statement.{statement}
 use Rattle.plate_reader.proofs.inside_list.Tie as tie
@@ -26,14 +27,15 @@ returns c =
     record { holds = refused-list p ne; memory = refl; place = omega (arith, refused-at p ne) }
 
 inside-positions-requires : tie.Need-inside-positions-requires
-inside-positions-requires c κs = accepted-fits _ (sym (c .before .plate-no .ensures) ∙ c .if1 .left)
+inside-positions-requires c κs = search needs
 
 returns-2 : tie.Need-returns-2
 returns-2 c =
     let p = c .before .before .before .before .args .plate .now in
     let e : plateNo p ≡ 0 = sym (c .before .before .plate-no .ensures) ∙ c .before .if1 .left in
     let part = c .inside-positions .ensures in
-    record { holds = part .holds ∙ accepted-list p e; memory = part .memory; place = omega (arith, part .place, accepted-at p e) }
+    let ends = dec-fit p .is (accepted-fits p e) .ends in
+    record { holds = part .holds ∙ accepted-list p e; memory = part .memory; place = omega (arith, part .place, accepted-at p e, ends) }
 
 pub inside-list-spec : {M : Type 1} → statement M
 inside-list-spec =

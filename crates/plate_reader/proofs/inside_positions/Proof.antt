@@ -1,48 +1,53 @@
 -- `plate_reader::inside_positions` meets its contract. Assumes nothing.
 use borrow.Author.Needs.{needs}
-use mathlib.Core.Path.{_≡_, refl, ap₂}
-use Prim.Native.Nat.{_+_, _-_}
+use mathlib.Core.Path.{_≡_, ap, ap₂, _∙_}
+use Prim.Native.Nat.{_+_}
 use lib.ListN.{take, drop}
 use native.Mathlib.Omega.{arith}
-use Rattle.plate_reader.specs.PlateQuestions.{insideCount, insideStart, insideList}
-use Rattle.plate_reader.specs.PlateSections.{dec-fit}
+use Rattle.plate_reader.specs.PlateQuestions.{insideStart, insideList}
 use Rattle.plate_reader.proofs.inside_positions.Statement.{statement}
 use Rattle.plate_reader.proofs.inside_positions.Tie as tie
 
 sheet-length-requires : tie.Need-sheet-length-requires
 sheet-length-requires c κs = search needs
 
-add-start : tie.Need-add-start
-add-start c = search needs
+add-bytes-after : tie.Need-add-bytes-after
+add-bytes-after c = search needs
 
-outside-start-requires : tie.Need-outside-start-requires
-outside-start-requires c κs = search needs
+bytes-after-requires : tie.Need-bytes-after-requires
+bytes-after-requires c κs = search needs
 
-sub-result : tie.Need-sub-result
-sub-result c = search needs
+inside-count-requires : tie.Need-inside-count-requires
+inside-count-requires c κs = search needs
 
-part-result-start : tie.Need-part-result-start
-part-result-start c = search needs
+cast-first-bytes : tie.Need-cast-first-bytes
+cast-first-bytes c = search needs
 
-part-result-end : tie.Need-part-result-end
-part-result-end c = let e = dec-fit _ .is (c .before .before .before .pre) .ends in omega arith
+first-bytes-requires : tie.Need-first-bytes-requires
+first-bytes-requires c κs = search needs
 
 returns : tie.Need-returns
 unfolding insideList
 returns c =
-    let p = c .before .before .before .before .args .plate .now in
-    let start : c .before .before .sheet-length .result + 1 ≡ insideStart p = omega arith in
-    let size : c .before .outside-start .result - (c .before .before .sheet-length .result + 1) ≡ insideCount p = omega arith in
-    record { holds = ap₂ (λ n k. take n (drop k p)) size start; memory = refl; place = omega arith }
+    let p = c .before .before .before .before .before .args .plate .now in
+    let rest = c .before .before .bytes-after .ensures in
+    let part = c .first-bytes .ensures in
+    let start : c .before .before .before .sheet-length .result + 1 ≡ insideStart p =
+    omega (arith, c .before .before .before .sheet-length .ensures) in
+    record {
+      holds = part .holds ∙ ap₂ take (c .before .inside-count .ensures) (rest .holds ∙ ap (λ k. drop k p) start);
+      memory = part .memory ∙ rest .memory;
+      place = omega (arith, part .place, rest .place, start);
+    }
 
 pub inside-positions-spec : {M : Type 1} → statement M
 inside-positions-spec =
     tie.close
     (tie.spec
     sheet-length-requires
-    add-start
-    outside-start-requires
-    sub-result
-    part-result-start
-    part-result-end
+    add-bytes-after
+    bytes-after-requires
+    inside-count-requires
+    cast-first-bytes
+    first-bytes-requires
     returns)

@@ -29,7 +29,7 @@ unfolding sectionsNo
 past-41 c = past (first-of (sectionsNo (c .before .before .before .args .plate .now))) _ 41 _ refl (fit c)
 
 inside-positions-requires : tie.Need-inside-positions-requires
-inside-positions-requires c κs = fit c
+inside-positions-requires c κs = search needs
 
 point-count-requires : tie.Need-point-count-requires
 point-count-requires c κs = search needs
@@ -57,7 +57,7 @@ choice-of-requires : tie.Need-choice-of-requires
 choice-of-requires c κs = search needs
 
 outside-pairs-requires : tie.Need-outside-pairs-requires
-outside-pairs-requires c κs = fit (c .before .before .before .before .before .before .before)
+outside-pairs-requires c κs = search needs
 
 pairs-follow-requires : tie.Need-pairs-follow-requires
 pairs-follow-requires c κs = search needs
@@ -72,7 +72,7 @@ walk c =
     (c .pairs-follow .ensures
     ∙ walk-read (entry .args .plate .now) _ _ _ _ (entry .pre) (fit whole) (on _ _ (risen (up .before) .right) (up .if2 .left))
     (c .before .before .before .before .sheet-of .ensures) (up .before .before .before .inside-positions .ensures .holds)
-    (c .before .outside-pairs .ensures) (c .before .before .before .choice-of .ensures))
+    (c .before .outside-pairs .ensures .holds) (c .before .before .before .choice-of .ensures))
 
 returns-3 : tie.Need-returns-3
 unfolding sectionsNo

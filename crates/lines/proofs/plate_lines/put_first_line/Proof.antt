@@ -72,7 +72,7 @@ returns c =
     c .before .before .before .before .before .before .before .before .before .before .before .before .before .inside-count .ensures in
     let columns : c .before .before .before .before .before .before .before .columns-used .result ≡ columnsUsed (outsidePairs p) =
     c .before .before .before .before .before .before .before .columns-used .ensures
-    ∙ ap columnsUsed (c .before .before .before .before .before .before .before .before .outside-pairs .ensures) in
+    ∙ ap columnsUsed (c .before .before .before .before .before .before .before .before .outside-pairs .ensures .holds) in
     put-more (omega arith)
     (put-more (omega arith)
     (put-more (omega arith)

@@ -53,8 +53,8 @@ put-point-requires c κs =
       ),
       (
         c .before .before .before .before .before .choice-of .ensures
-            ∙ ap flagsOf (c .before .before .before .before .before .before .inside-positions .ensures),
-        c .before .before .before .before .outside-pairs .ensures,
+            ∙ ap flagsOf (c .before .before .before .before .before .before .inside-positions .ensures .holds),
+        c .before .before .before .before .outside-pairs .ensures .holds,
       ),
     )
 

@@ -1,4 +1,4 @@
--- `lines::sections::columns_used` meets its contract. Assumes nothing.
+-- `lines::margins::columns_used` meets its contract. Assumes nothing.
 use borrow.Author.Needs.{needs}
 use mathlib.Core.Path.{_≡_}
 use Prim.Native.Nat.{_+_, _-_, _≤_, max}
@@ -6,8 +6,8 @@ use lib.ListN.{length, getD, drop}
 use native.Mathlib.Omega.{arith}
 use Rattle.lines.specs.Listing.{columnsUsed}
 use Rattle.lines.proofs.PairLaws.{columns-more, columns-end}
-use Rattle.lines.proofs.sections.columns_used.Statement.{statement}
-use Rattle.lines.proofs.sections.columns_used.Tie as tie
+use Rattle.lines.proofs.margins.columns_used.Statement.{statement}
+use Rattle.lines.proofs.margins.columns_used.Tie as tie
 
 abbrev Inv-loop : tie.InvT-loop
 Inv-loop pairs used₀ at₀ used at = (at ≤ length pairs) × (max used (columnsUsed (drop at pairs)) ≡ columnsUsed pairs)

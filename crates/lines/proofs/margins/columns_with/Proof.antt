@@ -1,8 +1,8 @@
--- `lines::sections::columns_with` meets its contract. Assumes nothing.
+-- `lines::margins::columns_with` meets its contract. Assumes nothing.
 use borrow.Author.Needs.{needs}
 use native.Mathlib.Omega.{arith}
-use Rattle.lines.proofs.sections.columns_with.Statement.{statement}
-use Rattle.lines.proofs.sections.columns_with.Tie as tie
+use Rattle.lines.proofs.margins.columns_with.Statement.{statement}
+use Rattle.lines.proofs.margins.columns_with.Tie as tie
 
 add-next : tie.Need-add-next
 add-next c = search needs

@@ -1,12 +1,12 @@
--- `lines::sections::margin_of` meets its contract. Assumes nothing.
+-- `lines::margins::margin_of` meets its contract. Assumes nothing.
 use borrow.Author.Needs.{needs}
 use mathlib.Core.Path.{_≡_, refl, sym, _∙_}
 use Prim.Native.Nat.{_-_, _≤_}
 use lib.ListN.{length, drop}
 use Rattle.lines.specs.Listing.{marginOf}
 use Rattle.lines.proofs.PairLaws.{margin-found, margin-more, margin-end}
-use Rattle.lines.proofs.sections.margin_of.Statement.{statement}
-use Rattle.lines.proofs.sections.margin_of.Tie as tie
+use Rattle.lines.proofs.margins.margin_of.Statement.{statement}
+use Rattle.lines.proofs.margins.margin_of.Tie as tie
 
 abbrev Inv-loop : tie.InvT-loop
 Inv-loop pairs position at₀ at = (at ≤ length pairs) × (marginOf position pairs ≡ marginOf position (drop at pairs))
