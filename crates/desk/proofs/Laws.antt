@@ -1,18 +1,18 @@
--- Facts about the questions and the bytes, for the proofs of this crate. Assumes nothing.
+-- Facts about the bytes, verdicts and loads, for the proofs of this crate. Assumes nothing.
 use mathlib.Core.Path.{_≡_, refl, sym, ap, ap₂, _∙_}
-use mathlib.Core.Bool.{true}
 use mathlib.Core.List.{List, [], _∷_, _++_}
 use mathlib.Core.Option.{Option}
 use Prim.Native.Nat.{ℕ, zero, suc, _+_, _-_, _*_, _≤_, _<_}
-use lib.Dec.{ltb, eqb}
-use lib.ListN.{length, getD, set, take, drop, replicate, length-drop}
+use lib.Dec.{eqb}
+use lib.ListN.{length, getD, set, take, drop, replicate}
 use lib.Seq.{take-all}
-use borrow.Author.Tests.{eq-eqb, ne-eqb, eqb-true, le-leb}
+use borrow.Author.Tests.{eqb-true, le-leb}
 use native.Mathlib.Omega.{arith}
 use native.Mathlib.Numerals.{add-one}
 use Rattle.format.specs.Sizes.{mostPoints, sheetRoom, plateRoom}
+use Rattle.format.specs.Bytes.{all-after}
 use Rattle.format.specs.Padded.{padded, drop-zeros}
-use Rattle.labeling.specs.Decide.{decide, same}
+use Rattle.labeling.specs.Decide.{decide}
 use Rattle.labeling.specs.Best.{weight, bestSum}
 use Rattle.format.specs.Sheet.{pointCount, pointsOf, sheetNo}
 use Rattle.format.specs.RankList.{rankIn}
@@ -25,54 +25,22 @@ use Rattle.clash.specs.declared.ClashKind.{ClashKind}
 use Rattle.clash.specs.declared.Clash.{Clash}
 use Rattle.clash.specs.declared.Clash.the-variants.{None, Between}
 use Rattle.clash.specs.FirstClash.{firstClash}
-use Rattle.plate_reader.specs.PlateQuestions.{insideStart, insideCount, insideList}
+use Rattle.plate_reader.specs.PlateQuestions.{insideList}
 use Rattle.format.specs.MakingQuestions.{roomNo, askedNo, choosingNo, makingNo, loadAskedNo, loadNo, workspaceAfter, none-load}
 use Rattle.plate_maker.specs.Making.{makeOutcome, Making}
 use Rattle.plate_maker.specs.MakingLaws.{making-workspace, made-output}
 use Rattle.plate_maker.specs.declared.MakeAnswer.{MakeAnswer}
 use Rattle.plate_maker.specs.declared.MakeAnswer.the-variants.{Made, Refused as RefusedMaking}
-use Rattle.desk.specs.Questions.{sumOf, listSum, aboveBefore, entryNo, entriesNo}
-use Rattle.desk.specs.Desk.{noSheet, noRanks, loadOutcome, ranksBelow, ranksHeld, rankHeld, heldOf, withHeld}
+use Rattle.desk.specs.Desk.{sumOf, listSum, noSheet, noRanks, loadOutcome, ranksBelow, ranksHeld, rankHeld, heldOf, withHeld}
 use Rattle.desk.specs.Desk.{loadedDesk, Loading, verdictBy, verdictAt}
 use Rattle.desk.specs.Blank.{blankPlate}
-use Rattle.desk.specs.Lists.{inside-sum, sum-same}
-use Rattle.desk.specs.Loaded.{rank-held, plate-inside, plate-room}
+use Rattle.desk.specs.Sums.{inside-sum, sum-same}
+use Rattle.desk.specs.Loaded.{rank-held, plate-inside}
 use Rattle.desk.specs.declared.Held.{Held}
 use Rattle.desk.specs.declared.Desk.{Desk}
 use Rattle.desk.specs.declared.LoadAnswer.the-variants.{Accepted, Refused}
 use Rattle.desk.specs.declared.LoadResult.{LoadResult}
 use Rattle.desk.specs.declared.Verdict.the-variants.{Valid, Clash as ClashVerdict}
-
--- the bytes after the first, as the code lends them
-pub all-after : (l : List ℕ) → take (length l - 1) (drop 1 l) ≡ drop 1 l
-all-after l = take-all (length l - 1) (drop 1 l) (omega (arith, length-drop 1 l))
-
--- ENTRY BY ENTRY
-
--- an entry with one before it
-pub above-entry : (p : List ℕ) (k : ℕ) → (k ≡ 0 → ⊥) → aboveBefore p k ≡ ltb (getD p (k - 1) 0) (getD p k 0)
-above-entry p zero ne = absurd (ne refl)
-above-entry p (suc k) ne = ap (λ j. ltb (getD p j 0) (getD p (suc k) 0)) (let q : k ≡ suc k - 1 = omega arith in q)
-
--- the first entry
-pub above-first : (p : List ℕ) (k : ℕ) → k ≡ 0 → aboveBefore p k ≡ true
-above-first p k e = rw e
-
--- one more entry without a no
-pub entries-more : (n : ℕ) (p : List ℕ) (m : ℕ) → entriesNo n p m ≡ 0 → entryNo n p m ≡ 0 → entriesNo n p (m + 1) ≡ 0
-unfolding entriesNo
-entries-more n p m e q = rw (add-one, eq-eqb (entriesNo n p m) 0 e) q
-
--- the first entry with a no decides
-pub entries-first : (n : ℕ) (p : List ℕ) (m k : ℕ) → entriesNo n p m ≡ 0 → (entryNo n p m ≡ 0 → ⊥) → m < k → entryNo n p m ≡ entriesNo n p k
-unfolding entriesNo
-entries-first n p m zero e ne l = absurd (omega arith)
-entries-first n p m (suc k) e ne l =
-    same m k
-    (λ q. rw (← q, eq-eqb (entriesNo n p m) 0 e))
-    (λ no.
-    let ih : entryNo n p m ≡ entriesNo n p k = entries-first n p m k e ne (omega arith) in
-    rw (ne-eqb (entriesNo n p k) 0 (λ z. ne (ih ∙ z))) ih)
 
 -- COPYING BYTES: after k stores the bytes are the first k of s, and the rest of d
 
@@ -107,7 +75,7 @@ module _ (s : List ℕ) (rank : ℕ → ℕ) (best : ℕ) (l : List ℕ) (x : Cl
     (first : x ≡ firstClash (pointsOf s) (choiceOf (take (length l - 1) (drop 1 l)))) where
   by-clash : verdictAt s rank best l ≡ verdictBy x (listSum rank l) best
   unfolding verdictAt
-  by-clash = ap (λ y. verdictBy y (listSum rank l) best) (sym (first ∙ ap (λ p. firstClash (pointsOf s) (choiceOf p)) (all-after l)))
+  by-clash = ap (λ y. verdictBy y (listSum rank l) best) (sym (first ∙ ap (λ p. firstClash (pointsOf s) (choiceOf p)) (all-after 1 l)))
 
   pub verdict-clash : {i j : ℕ} {k : ClashKind} → x ≡ Between i j k → ClashVerdict i j k ≡ verdictAt s rank best l
   verdict-clash e = sym (by-clash ∙ ap (λ y. verdictBy y (listSum rank l) best) e)
@@ -163,12 +131,7 @@ module _ (s : List ℕ) (l : Option (List ℕ)) (o w o′ w′ : List ℕ) (answ
   plate-there : (r : ℕ) → answer ≡ Made r → o′ ≡ bestPlate s l ++ drop (length (bestPlate s l)) o
   plate-there r e = let n : Making s l o w (Made r) o′ w′ = rw e at m in made-output n
 
-  -- its inside positions are all there,
-  pub made-room : (r : ℕ) → answer ≡ Made r → insideStart o′ + insideCount o′ ≤ length o′
-  unfolding bestPlate
-  made-room r e = rw (plate-there r e) (plate-room s (bestChoiceOf s l) (made-sheet r e) _)
-
-  -- and their sum is the best
+  -- and the sum of its inside positions is the best
   made-sum : (r : ℕ) → answer ≡ Made r → sumOf (rankHeld (ranksHeld s l)) (insideList o′) ≡ bestSum (pointsOf s) (rankIn l)
   unfolding bestPlate weight
   made-sum r e =

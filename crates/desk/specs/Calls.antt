@@ -17,10 +17,9 @@ use Rattle.plate_reader.specs.PlateQuestions.{insideCount}
 use Rattle.plate_maker.specs.Making.{makeOutcome, Making}
 use Rattle.plate_maker.specs.declared.MakeAnswer.{MakeAnswer}
 use Rattle.format.specs.MakingQuestions.{loadNo}
-use Rattle.desk.specs.Questions.{positions, listNo, markNo}
+use Rattle.mark_questions.specs.MarkQuestions.{positions, listNo, markNo}
+use Rattle.mark_questions.specs.Lists.{none-list, none-mark}
 use Rattle.desk.specs.Desk.{fresh, loadOf, markOf}
-use Rattle.desk.specs.DeskLaws.{none-mark}
-use Rattle.desk.specs.Lists.{none-list}
 use Rattle.desk.specs.declared.Desk.{Desk}
 
 -- THE SEQUENCE

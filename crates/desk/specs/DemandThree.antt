@@ -16,8 +16,7 @@ use Rattle.format.specs.RankList.{rankIn}
 use Rattle.clash.specs.declared.ClashKind.{ClashKind}
 use Rattle.clash.specs.ClashPixels.{Named}
 use Rattle.format.specs.MakingQuestions.{workspaceAfter, loadNo}
-use Rattle.desk.specs.Questions.{listSum}
-use Rattle.desk.specs.Desk.{loadOf, loadOutcome, markOf, VerdictOutcome, validOutcome, clashOutcome, markOutcome}
+use Rattle.desk.specs.Desk.{listSum, loadOf, loadOutcome, markOf, VerdictOutcome, validOutcome, clashOutcome, markOutcome}
 use Rattle.desk.specs.Calls.{load, mark, Calls, noCalls, _andThen_, deskAfter, AcceptedLoad, lastTaken, markedLists}
 use Rattle.desk.specs.Calls.{lastNumber, markNoAfter, MarkedAfter, choiceOfList, ValidList, PlateMade, sectionRead}
 

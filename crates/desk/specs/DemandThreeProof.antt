@@ -32,11 +32,12 @@ use Rattle.plate_maker.specs.Making.{makeOutcome, Making}
 use Rattle.plate_maker.specs.MakingLaws.{made-making, made-preferred, made-start}
 use Rattle.plate_maker.specs.declared.MakeAnswer.{MakeAnswer}
 use Rattle.plate_maker.specs.declared.MakeAnswer.the-variants.{Made, Refused}
-use Rattle.desk.specs.Questions.{positions, sumOf, listSum, loadedListNo, markNo}
-use Rattle.desk.specs.Desk.{noSheet, nothingHeld, ranksHeld, rankHeld, heldOf, loadOutcome, verdictBy, verdictAt}
+use Rattle.mark_questions.specs.MarkQuestions.{positions, loadedListNo, markNo}
+use Rattle.mark_questions.specs.Lists.{Listed, none-list, choice-listed, none-mark}
+use Rattle.desk.specs.Desk.{sumOf, listSum, noSheet, nothingHeld, ranksHeld, rankHeld, heldOf, loadOutcome, verdictBy, verdictAt}
 use Rattle.desk.specs.Desk.{verdictOf, firstNo, markedDesk, verdictOutcome, markOutcome}
-use Rattle.desk.specs.DeskLaws.{load-yes, load-no, mark-yes, mark-no, none-mark}
-use Rattle.desk.specs.Lists.{Listed, none-list, weight-most, inside-sum, sum-same, list-sum, choice-listed}
+use Rattle.desk.specs.DeskLaws.{load-yes, load-no, mark-yes, mark-no}
+use Rattle.desk.specs.Sums.{weight-most, inside-sum, sum-same, list-sum}
 use Rattle.desk.specs.Calls.{load, mark, Calls, noCalls, _andThen_, deskAfter, AcceptedLoad, accepts, loadedAfter}
 use Rattle.desk.specs.Calls.{Taken, lastTaken, pointsIn}
 use Rattle.desk.specs.Calls.{markedLists, lastNumber, markNoAfter, MarkedAfter, choiceOfList, ValidList, PlateMade, sectionRead}

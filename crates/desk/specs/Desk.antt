@@ -4,7 +4,7 @@ use mathlib.Core.Path.{_≡_, refl, sym}
 use mathlib.Core.Bool.{Bool, true, false, cond, not, true≢false}
 use mathlib.Core.List.{List, [], _∷_, _++_}
 use mathlib.Core.Option.{Option, none, some}
-use Prim.Native.Nat.{ℕ, zero, suc, _-_}
+use Prim.Native.Nat.{ℕ, zero, suc, _+_, _-_}
 use lib.Dec.{eqb}
 use lib.ListN.{length, getD, replicate}
 use Rattle.format.specs.Sizes.{mostPoints, sheetRoom}
@@ -19,7 +19,7 @@ use Rattle.clash.specs.declared.ClashKind.{ClashKind}
 use Rattle.clash.specs.declared.Clash.{Clash}
 use Rattle.clash.specs.declared.Clash.the-variants.{None, Between}
 use Rattle.clash.specs.FirstClash.{firstClash}
-use Rattle.desk.specs.Questions.{positions, listSum, nextNumber, markNo}
+use Rattle.mark_questions.specs.MarkQuestions.{positions, markNo}
 use Rattle.desk.specs.declared.Held.{Held}
 use Rattle.desk.specs.declared.Desk.{Desk}
 use Rattle.desk.specs.declared.LoadAnswer.{LoadAnswer}
@@ -30,6 +30,19 @@ use Rattle.desk.specs.declared.MarkAnswer.the-variants.{Marked, Refused 
 use Rattle.desk.specs.declared.MarkResult.{MarkResult}
 use Rattle.desk.specs.declared.Verdict.{Verdict}
 use Rattle.desk.specs.declared.Verdict.the-variants.{Valid, Clash as ClashVerdict}
+
+-- SUMS
+
+-- The sum of the ranks of these positions, where p has the rank `rank p`.
+unfoldable pub sumOf : (ℕ → ℕ) → List ℕ → ℕ
+sumOf rank [] = 0
+sumOf rank (p ∷ l) = rank p + sumOf rank l
+
+-- "sums of ranks stand where it has the count of a list" (document 02 (e)): the sum of a list.
+abbrev pub listSum : (ℕ → ℕ) → List ℕ → ℕ
+listSum rank l = sumOf rank (positions l)
+
+-- WHAT A DESK HOLDS
 
 -- No bytes of a sheet.
 unfoldable pub noSheet : List ℕ
@@ -151,6 +164,10 @@ abbrev pub markOutcome : MarkAnswer → MarkOutcome
 markOutcome (Marked number verdict) =
     record { refused = false; no = 0; number = some number; verdict = some (verdictOutcome verdict) }
 markOutcome (RefusedMark k) = record { refused = true; no = k; number = none; verdict = none }
+
+-- "The next number."
+abbrev pub nextNumber : ℕ → ℕ
+nextNumber last = last + 1
 
 -- The first no of a mark of the list l at this desk, 0 if there is none.
 abbrev pub firstNo : Desk → List ℕ → ℕ

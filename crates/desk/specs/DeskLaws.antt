@@ -1,24 +1,17 @@
--- The promises of a load and a mark in their cases, and that each leaves one result; and what a mark that isn't refused has been asked.
--- Assumes nothing.
+-- The promises of a load and a mark in their cases, and that each leaves one result. Assumes nothing.
 use mathlib.Core.Path.{_≡_, sym, ap, _∙_}
-use mathlib.Core.Bool.{Bool, true}
 use mathlib.Core.Logic.{_↔_}
 use mathlib.Core.List.{List}
 use mathlib.Core.Option.{Option}
-use Prim.Native.Nat.{ℕ, _<_}
+use Prim.Native.Nat.{ℕ}
 use lib.ListN.{length}
 use borrow.Author.Tests.{eq-eqb, ne-eqb}
-use native.Mathlib.Omega.{arith}
-use Rattle.labeling.specs.Decide.{same, dec-lt}
+use Rattle.labeling.specs.Decide.{same}
 use Rattle.format.specs.Answers.{outcomeOf}
-use Rattle.format.specs.Accepted.{NoneOf, none-ask, none-left}
-use Rattle.format.specs.Asking.{none-then}
 use Rattle.format.specs.MakingQuestions.{workspaceAfter, loadNo}
-use Rattle.desk.specs.Questions.{nextNumber, loadedListNo, markNo}
 use Rattle.desk.specs.Desk.{loadOutcome, load-outcome-fixes, Loading, loadedDesk, loadResult}
-use Rattle.desk.specs.Desk.{loadAnswerOf, loadOf, verdictOf, firstNo, markOutcome, markOutcomeOf}
+use Rattle.desk.specs.Desk.{loadAnswerOf, loadOf, verdictOf, nextNumber, firstNo, markOutcome, markOutcomeOf}
 use Rattle.desk.specs.Desk.{mark-outcome-fixes, Marking, markedDesk, markResult, markAnswerOf, markOf}
-use Rattle.desk.specs.Lists.{Listed, none-list}
 use Rattle.desk.specs.declared.Desk.{Desk}
 use Rattle.desk.specs.declared.LoadAnswer.the-variants.{Accepted as AcceptedSheet, Refused}
 use Rattle.desk.specs.declared.LoadResult.{LoadResult}
@@ -83,11 +76,3 @@ marking-exactly d l r = (
     desk = ap (λ x. x .desk) e ∙ ap (λ x. markedDesk (x .answer) d) (sym e);
   },
 )
-
--- a list is marked exactly if a sheet is loaded, the list is well-formed, and a number is left
-pub none-mark : (loaded : Bool) (n last : ℕ) (l : List ℕ)
-    → NoneOf (markNo loaded n last l) (((loaded ≡ true) × Listed n l) × ((last < 9999) × Unit {0}))
-unfolding markNo loadedListNo
-none-mark loaded n last l =
-    none-then (none-ask 51 (omega arith) (record { is = λ e. e; of = λ e. e }) (none-list n l))
-    (none-ask 52 (omega arith) (dec-lt last 9999) none-left)

@@ -1,11 +1,10 @@
--- TO BE BELIEVED, in this order: the questions, the promises of a load and a mark, the words of demand 3, and what it claims.
-pub mod Questions
+-- TO BE BELIEVED, in this order: the promises of a load and a mark, the words of demand 3, and what it claims.
 pub mod Desk
 pub mod Calls
 pub mod DemandThree
--- THEOREMS: what a list without a no is, and its sum; the one result that each promise leaves; demand 3; without a rank list, and with one
--- of ones; a load with 61, and loads with ranks.
-pub mod Lists
+-- THEOREMS: the sum of a list; the one result that each promise leaves; demand 3; without a rank list, and with one of ones; a load with
+-- 61, and loads with ranks.
+pub mod Sums
 pub mod DeskLaws
 pub mod DemandThreeProof
 pub mod Unranked

@@ -18,7 +18,7 @@ use Rattle.format.specs.Sheet.{twoBytes, pointCount, pointsOf, sheetLength}
 use Rattle.format.specs.RankList.{rankIn}
 use Rattle.format.specs.Accepted.{Accepted}
 use Rattle.format.specs.Plate.{insideBelow, insideSection, outsideSection, pairs, plateOf}
-use Rattle.plate_reader.specs.PlateQuestions.{insideCount, insideStart, insideList}
+use Rattle.plate_reader.specs.PlateQuestions.{insideList}
 use Rattle.plate_reader.specs.PlateSections.{Parts, read-back}
 use Rattle.desk.specs.Desk.{ranksBelow, ranksHeld, rankHeld}
 use Rattle.desk.specs.Calls.{sectionRead}
@@ -103,23 +103,9 @@ module _ (s : List ℕ) (S : Choice) (a : Accepted s) (rest : List ℕ) where
   unfolding plateOf insideSection outsideSection
   parts = read-back _ _ _ _ _ (a .long) (append-assoc (s ++ insideSection s S) (outsideSection s S) rest)
 
-  -- the inside positions that are read are the choice's, and they are all there
+  -- the inside positions that are read are the choice's
   pub plate-inside : insideList (plateOf s S ++ rest) ≡ insideBelow S (pointCount s)
   plate-inside = parts .inside
-
-  pub plate-room : insideStart (plateOf s S ++ rest) + insideCount (plateOf s S ++ rest) ≤ length (plateOf s S ++ rest)
-  unfolding plateOf insideSection
-  plate-room =
-      let I = length (insideBelow S (pointCount s)) ∷ insideBelow S (pointCount s) in
-      omega (
-        arith,
-        parts .points,
-        parts .inside-count,
-        a .long,
-        length-append (s ++ I ++ outsideSection s S) rest,
-        length-append (s ++ I) (outsideSection s S),
-        length-append s I,
-      )
 
   -- the inside section that is read is the choice's
   section-start : sectionRead (plateOf s S ++ rest) ≡ insideSection s S

@@ -17,8 +17,8 @@ use Rattle.format.specs.MakingQuestions.{loadAskedNo, loadNo}
 use Rattle.clash.specs.FirstClash.{pairClash, ownClash, firstOf, laterClash, clashOf, firstClash}
 use Rattle.clash.specs.declared.ClashKind.the-variants.{Labels}
 use Rattle.plate_reader.specs.Cases.{at, sheet}
-use Rattle.desk.specs.Questions.{sumOf, countRight, entryNo, entriesNo, listNo, loadedListNo, markNo}
-use Rattle.desk.specs.Desk.{fresh, ranksBelow, ranksHeld, heldOf, withHeld, verdictAt, markOf}
+use Rattle.mark_questions.specs.MarkQuestions.{countRight, entryNo, entriesNo, listNo, loadedListNo, markNo}
+use Rattle.desk.specs.Desk.{sumOf, fresh, ranksBelow, ranksHeld, heldOf, withHeld, verdictAt, markOf}
 use Rattle.desk.specs.DeskLaws.{load-yes, load-no}
 use Rattle.desk.specs.Calls.{load, Calls, noCalls, _andThen_, deskAfter}
 use Rattle.desk.specs.declared.Desk.{Desk}

@@ -15,8 +15,8 @@ use Rattle.format.specs.Padded.{padded}
 use Rattle.format.specs.Sizes.{mostPoints}
 use Rattle.format.specs.MakingQuestions.{loadNo}
 use Rattle.format.specs.Unranked.{without-list, ones, rank-one, ones-load, ones-best}
-use Rattle.desk.specs.Questions.{listCount, sumOf, listSum}
-use Rattle.desk.specs.Desk.{ranksBelow, ranksHeld, heldOf, withHeld, loadedDesk, loadResult, loadAnswerOf, loadOf}
+use Rattle.mark_questions.specs.MarkQuestions.{listCount}
+use Rattle.desk.specs.Desk.{sumOf, listSum, ranksBelow, ranksHeld, heldOf, withHeld, loadedDesk, loadResult, loadAnswerOf, loadOf}
 use Rattle.desk.specs.Desk.{markOf, markOutcome, VerdictOutcome, validOutcome}
 use Rattle.desk.specs.Calls.{Calls, deskAfter, Taken, lastTaken, lastNumber, MarkedAfter}
 use Rattle.desk.specs.Calls.{choiceOfList, ValidList, PlateMade, sectionRead}

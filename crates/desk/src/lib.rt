@@ -12,8 +12,6 @@ ghost use Rattle.desk.specs.Desk.{fresh, Loading, Marking};
 
 mod loading;
 mod marking;
-mod numbering;
-mod questions;
 mod sums;
 
 // What a load puts into the desk: the bytes of the sheet, zeros past its end; the ranks of its points, by position, zeros past the last;

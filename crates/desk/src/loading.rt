@@ -113,7 +113,7 @@ fn refused_load(desk: Desk, no: u8) -> LoadResult
 }
 
 // Makes the best plate of the sheet, by the rank list if one is lent.
-fn make_with(
+fn make_plate(
     sheet: &[u8],
     ranked: bool,
     ranks: &[u8],
@@ -141,7 +141,7 @@ pub(crate) fn load_with(
         (now (workspace .exit)) ⌝ }
 {
     let mut plate = blank_plate();
-    match make_with(sheet, ranked, ranks, &mut plate, workspace) {
+    match make_plate(sheet, ranked, ranks, &mut plate, workspace) {
         MakeAnswer::Refused(no) => refused_load(desk, no),
         MakeAnswer::Made(_) => {
             let held = padded_ranks(ranked, ranks, format::point_count(sheet));

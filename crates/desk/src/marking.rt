@@ -3,16 +3,14 @@ use crate::Desk;
 use crate::MarkAnswer;
 use crate::MarkResult;
 use crate::Verdict;
-use crate::numbering::next_number;
-use crate::questions::mark_no;
 use crate::sums::sum_of;
 use clash::Clash;
 use clash::ClashKind;
+use mark_questions::mark_no;
 ghost use mathlib.Core.Path.{_≡_};
-ghost use Prim.Native.Nat.{_-_};
-ghost use Rattle.desk.specs.Questions.{listSum};
-ghost use Rattle.desk.specs.Lists.{Counted};
-ghost use Rattle.desk.specs.Desk.{rankHeld, verdictAt, verdictOf, firstNo, Marking, markResult};
+ghost use Prim.Native.Nat.{_-_, _<_};
+ghost use Rattle.mark_questions.specs.Lists.{Counted};
+ghost use Rattle.desk.specs.Desk.{listSum, rankHeld, verdictAt, verdictOf, firstNo, nextNumber, Marking, markResult};
 
 // The sum of the ranks of a list whose count byte is right.
 fn list_sum(ranks: &[u8], list: &[u8]) -> u16
@@ -72,6 +70,14 @@ fn verdict_of(desk: Desk, list: &[u8]) -> Verdict
     let sheet = desk.held.sheet;
     let ranks = desk.held.ranks;
     verdict_at(&sheet, &ranks, desk.held.best, list)
+}
+
+// The number after the last one.
+fn next_number(last: u16) -> u16
+    requires { ⌜ last < 9999 ⌝ }
+    ensures { λ r. ⌜ r ≡ nextNumber last ⌝ }
+{
+    last + 1
 }
 
 // A marked list: the desk with its number as the last one, and the answer.

@@ -1,12 +1,11 @@
 // Sums of ranks.
 use format::byte_at;
-use plate_reader::inside_count;
+use plate_reader::inside_positions;
 ghost use mathlib.Core.Path.{_≡_};
-ghost use Prim.Native.Nat.{_+_, _≤_};
+ghost use Prim.Native.Nat.{_≤_};
 ghost use lib.ListN.{length};
-ghost use Rattle.plate_reader.specs.PlateQuestions.{insideStart, insideCount, insideList};
-ghost use Rattle.desk.specs.Questions.{sumOf};
-ghost use Rattle.desk.specs.Desk.{rankHeld};
+ghost use Rattle.plate_reader.specs.PlateQuestions.{insideList};
+ghost use Rattle.desk.specs.Desk.{sumOf, rankHeld};
 
 // The rank of a position as a wider number.
 fn rank_at(ranks: &[u8], position: u8) -> u16
@@ -29,12 +28,9 @@ pub(crate) fn sum_of(ranks: &[u8], positions: &[u8]) -> u16
     sum
 }
 
-// The sum of the ranks of a plate's inside positions, which are all there.
+// The sum of the ranks of a plate's inside positions.
 pub(crate) fn inside_sum(ranks: &[u8], plate: &[u8]) -> u16
-    requires { ⌜ insideStart (now plate) + insideCount (now plate) ≤ length (now plate) ⌝ }
     ensures { λ r. ⌜ r ≡ sumOf (rankHeld (now (ranks .entry))) (insideList (now (plate .entry))) ⌝ }
 {
-    let start = format::sheet_length(plate) + 1;
-    let count = inside_count(plate) as usize;
-    sum_of(ranks, &plate[start..start + count])
+    sum_of(ranks, inside_positions(plate))
 }

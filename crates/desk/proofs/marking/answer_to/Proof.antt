@@ -4,9 +4,9 @@ use mathlib.Core.Path.{_≡_, sym, ap₂, _∙_}
 use mathlib.Core.Bool.{true}
 use Prim.Native.Nat.{_<_}
 use Rattle.format.specs.Sheet.{pointCount}
+use Rattle.mark_questions.specs.Lists.{Listed, none-mark}
 use Rattle.desk.specs.Desk.{markResult}
-use Rattle.desk.specs.Lists.{Listed}
-use Rattle.desk.specs.DeskLaws.{mark-yes, mark-no, marking-exactly, none-mark}
+use Rattle.desk.specs.DeskLaws.{mark-yes, mark-no, marking-exactly}
 use Rattle.desk.specs.declared.MarkAnswer.the-variants.{Marked}
 use Rattle.desk.proofs.marking.answer_to.Statement.{statement}
 use Rattle.desk.proofs.marking.answer_to.Tie as tie

@@ -1,7 +1,7 @@
 -- `desk::marking::first_no` meets its contract. Assumes nothing.
 use mathlib.Core.Path.{ap, _∙_}
 use borrow.Author.Needs.{needs}
-use Rattle.desk.specs.Questions.{markNo}
+use Rattle.mark_questions.specs.MarkQuestions.{markNo}
 use Rattle.desk.proofs.marking.first_no.Statement.{statement}
 use Rattle.desk.proofs.marking.first_no.Tie as tie
 

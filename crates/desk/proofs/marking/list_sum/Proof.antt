@@ -3,9 +3,8 @@ use mathlib.Core.Path.{ap, _∙_}
 use lib.ListN.{length-drop}
 use borrow.Author.Needs.{needs}
 use native.Mathlib.Omega.{arith}
-use Rattle.desk.specs.Questions.{sumOf}
-use Rattle.desk.specs.Desk.{rankHeld}
-use Rattle.desk.proofs.Laws.{all-after}
+use Rattle.format.specs.Bytes.{all-after}
+use Rattle.desk.specs.Desk.{sumOf, rankHeld}
 use Rattle.desk.proofs.marking.list_sum.Statement.{statement}
 use Rattle.desk.proofs.marking.list_sum.Tie as tie
 
@@ -21,12 +20,12 @@ part-sum-of-end c = search needs
 sum-of-requires : tie.Need-sum-of-requires
 sum-of-requires c κs =
     let l = c .before .before .before .args .list .now in
-    rw (all-after l) (omega (arith, c .before .before .before .pre .1, length-drop 1 l, c .before .shared-slice-known2 .given 0))
+    rw (all-after 1 l) (omega (arith, c .before .before .before .pre .1, length-drop 1 l, c .before .shared-slice-known2 .given 0))
 
 returns : tie.Need-returns
 returns c =
     let args = c .before .before .before .before .args in
-    c .sum-of .ensures ∙ ap (sumOf (rankHeld (args .ranks .now))) (all-after (args .list .now))
+    c .sum-of .ensures ∙ ap (sumOf (rankHeld (args .ranks .now))) (all-after 1 (args .list .now))
 
 pub list-sum-spec : {M : Type 1} → statement M
 list-sum-spec =

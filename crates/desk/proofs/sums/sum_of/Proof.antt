@@ -7,9 +7,8 @@ use lib.Seq.{take-suc, take-all}
 use borrow.Author.Needs.{needs}
 use native.Mathlib.Omega.{arith}
 use native.Mathlib.Numerals.{add-one}
-use Rattle.desk.specs.Questions.{sumOf}
-use Rattle.desk.specs.Desk.{rankHeld}
-use Rattle.desk.specs.Lists.{sum-last}
+use Rattle.desk.specs.Desk.{sumOf, rankHeld}
+use Rattle.desk.specs.Sums.{sum-last}
 use Rattle.desk.proofs.sums.sum_of.Statement.{statement}
 use Rattle.desk.proofs.sums.sum_of.Tie as tie
 

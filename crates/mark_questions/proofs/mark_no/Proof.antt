@@ -1,12 +1,12 @@
--- `desk::questions::mark_no` meets its contract. Assumes nothing.
+-- `mark_questions::mark_no` meets its contract. Assumes nothing.
 use mathlib.Core.Path.{_≡_, refl, sym, _∙_}
 use Prim.Native.Nat.{ℕ}
 use borrow.Author.Needs.{needs}
 use Rattle.format.specs.Sheet.{ask}
 use Rattle.format.specs.Asking.{ask-no, ask-yes, off, on, then-first, then-later}
-use Rattle.desk.specs.Questions.{numberLeft, markNo}
-use Rattle.desk.proofs.questions.mark_no.Statement.{statement}
-use Rattle.desk.proofs.questions.mark_no.Tie as tie
+use Rattle.mark_questions.specs.MarkQuestions.{numberLeft, markNo}
+use Rattle.mark_questions.proofs.mark_no.Statement.{statement}
+use Rattle.mark_questions.proofs.mark_no.Tie as tie
 
 loaded-list-no-requires : tie.Need-loaded-list-no-requires
 loaded-list-no-requires c κs = search needs

@@ -1,22 +1,20 @@
--- What the questions 31 to 33 ask, as facts: a list without a no is its count byte and an ascending list of positions below n, and its
--- sum is the weight of the choice that it stands for. Assumes nothing.
-use mathlib.Core.Path.{_≡_, refl, sym, ap, _∙_}
-use mathlib.Core.Bool.{true}
-use mathlib.Core.List.{List, [], _∷_, _++_, append-nil}
-use Prim.Native.Nat.{ℕ, zero, suc, _+_, _*_, _≤_, _<_}
+-- What the questions of a mark ask, as facts: a list without a no is its count byte and an ascending list of positions below n. Assumes
+-- nothing.
+use mathlib.Core.Path.{_≡_, refl}
+use mathlib.Core.Bool.{Bool, true}
+use mathlib.Core.List.{List, [], _∷_}
+use Prim.Native.Nat.{ℕ, zero, suc, _+_, _<_}
 use lib.Dec.{ltb, eqb}
 use lib.ListN.{length, getD}
 use borrow.Author.Tests.{eqb-true, eqb-false, eq-eqb}
 use native.Mathlib.Omega.{arith}
 use Rattle.labeling.specs.Decide.{decide, same, Decides, dec-lt, dec-eq, dec-and, and-both, dec-true}
-use Rattle.labeling.specs.Points.{Choice}
-use Rattle.labeling.specs.Best.{weightBelow, weight}
-use Rattle.format.specs.Sheet.{pointCount, pointsOf}
 use Rattle.format.specs.Accepted.{NoneOf, none-ask, none-left}
-use Rattle.format.specs.Plate.{choiceOf, insideBelow}
+use Rattle.format.specs.Asking.{none-then}
 use Rattle.format.specs.Ascending.{belowNext, ascending}
-use Rattle.format.specs.InsideList.{ascending-head, list-of-choice}
-use Rattle.desk.specs.Questions.{positions, listCount, sumOf, listSum, countRight, aboveBefore, entryNo, entriesNo, listNo}
+use Rattle.format.specs.InsideList.{ascending-head}
+use Rattle.mark_questions.specs.MarkQuestions.{positions, listCount, countRight, aboveBefore, entryNo, entriesNo, listNo}
+use Rattle.mark_questions.specs.MarkQuestions.{loadedListNo, markNo}
 
 -- ENTRY BY ENTRY
 
@@ -97,52 +95,16 @@ none-list n l =
       of = λ f. d .of (f .counted, up-entries n (positions l) (f .up));
     }
 
--- SUMS
-
-sum-append : (rank : ℕ → ℕ) (l m : List ℕ) → sumOf rank (l ++ m) ≡ sumOf rank l + sumOf rank m
-unfolding sumOf
-sum-append rank [] m = omega arith
-sum-append rank (p ∷ l) m = omega (arith, sum-append rank l m)
-
--- one more at the end
-pub sum-last : (rank : ℕ → ℕ) (l : List ℕ) (p : ℕ) → sumOf rank (l ++ p ∷ []) ≡ sumOf rank l + rank p
-unfolding sumOf
-sum-last rank l p = omega (arith, sum-append rank l (p ∷ []))
-
--- of the inside positions of a choice: its weight
-pub inside-sum : (rank : ℕ → ℕ) (S : Choice) (m : ℕ) → sumOf rank (insideBelow S m) ≡ weightBelow rank S m
-unfolding sumOf insideBelow weightBelow
-inside-sum rank S zero = refl
-inside-sum rank S (suc m) =
-    decide (S m)
-    (λ e. rw e (omega (arith, sum-last rank (insideBelow S m) m, inside-sum rank S m)))
-    (λ e. rw (e, append-nil) (omega (arith, inside-sum rank S m)))
-
--- with ranks up to 9, no choice of m positions weighs more than 9 each
-pub weight-most : (rank : ℕ → ℕ) (S : Choice) (m : ℕ) → ((i : ℕ) → i < m → rank i ≤ 9) → weightBelow rank S m ≤ 9 * m
-unfolding weightBelow
-weight-most rank S zero f = omega arith
-weight-most rank S (suc m) f =
-    let ih = weight-most rank S m (λ i l. f i (omega arith)) in
-    let a = f m (omega arith) in
-    decide (S m) (λ e. rw e (omega arith)) (λ e. rw e (omega arith))
-
--- only the ranks below n matter to a list of positions below n
-pub sum-same : (rank other : ℕ → ℕ) (n : ℕ) (l : List ℕ) → ascending n l ≡ true → ((p : ℕ) → p < n → rank p ≡ other p)
-    → sumOf rank l ≡ sumOf other l
-unfolding sumOf
-sum-same rank other n [] e f = refl
-sum-same rank other n (p ∷ l) e f =
-    let h = ascending-head n p l e in omega (arith, f p (h .0), sum-same rank other n l (h .2) f)
-
--- the sum of a list is the weight of its choice
-pub list-sum : (rank : ℕ → ℕ) (s l : List ℕ) → Listed (pointCount s) l
-    → weight (pointsOf s) rank (choiceOf (positions l)) ≡ listSum rank l
-unfolding weight
-list-sum rank s l f =
-    sym (inside-sum rank (choiceOf (positions l)) (pointCount s))
-    ∙ ap (sumOf rank) (list-of-choice (pointCount s) (positions l) (f .up))
-
 -- a choice's list, with its count byte
 pub choice-listed : (n : ℕ) (p : List ℕ) → ascending n p ≡ true → Listed n (length p ∷ p)
 choice-listed n p e = record { counted = (omega arith, omega arith); up = e }
+
+-- THE QUESTIONS OF A MARK
+
+-- a list is marked exactly if a sheet is loaded, the list is well-formed, and a number is left
+pub none-mark : (loaded : Bool) (n last : ℕ) (l : List ℕ)
+    → NoneOf (markNo loaded n last l) (((loaded ≡ true) × Listed n l) × ((last < 9999) × Unit {0}))
+unfolding markNo loadedListNo
+none-mark loaded n last l =
+    none-then (none-ask 51 (omega arith) (record { is = λ e. e; of = λ e. e }) (none-list n l))
+    (none-ask 52 (omega arith) (dec-lt last 9999) none-left)

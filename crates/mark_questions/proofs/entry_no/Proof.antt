@@ -1,4 +1,4 @@
--- `desk::questions::entry_no` meets its contract. Assumes nothing.
+-- `mark_questions::entry_no` meets its contract. Assumes nothing.
 use mathlib.Core.Path.{_≡_, refl, _∙_}
 use Prim.Native.Nat.{ℕ, _-_, _≤_, _<_}
 use lib.ListN.{getD}
@@ -7,10 +7,10 @@ use borrow.Author.Needs.{needs}
 use native.Mathlib.Omega.{arith}
 use Rattle.format.specs.Sheet.{ask}
 use Rattle.format.specs.Asking.{ask-no, ask-yes}
-use Rattle.desk.specs.Questions.{aboveBefore, entryNo}
-use Rattle.desk.proofs.Laws.{above-entry, above-first}
-use Rattle.desk.proofs.questions.entry_no.Statement.{statement}
-use Rattle.desk.proofs.questions.entry_no.Tie as tie
+use Rattle.mark_questions.specs.MarkQuestions.{aboveBefore, entryNo}
+use Rattle.mark_questions.proofs.Laws.{above-entry, above-first}
+use Rattle.mark_questions.proofs.entry_no.Statement.{statement}
+use Rattle.mark_questions.proofs.entry_no.Tie as tie
 
 shared-slice-read-entry : tie.Need-shared-slice-read-entry
 shared-slice-read-entry c = search needs

@@ -1,7 +1,6 @@
--- The questions of a mark (document 01, "Questions in their order"), on any bytes, and the desk's numbering. A byte past
--- the end of a list reads 0. Assumes nothing.
+-- The questions of a mark (document 01, "Questions in their order"), on any bytes. A byte past the end of a list reads 0. Assumes nothing.
 use mathlib.Core.Bool.{Bool, true, _&&_}
-use mathlib.Core.List.{List, [], _∷_}
+use mathlib.Core.List.{List}
 use Prim.Native.Nat.{ℕ, zero, suc, _+_}
 use lib.Dec.{ltb, eqb}
 use lib.ListN.{length, getD, drop}
@@ -16,15 +15,6 @@ positions l = drop 1 l
 -- "Its count is the number of its positions."
 abbrev pub listCount : List ℕ → ℕ
 listCount l = length (positions l)
-
--- The sum of the ranks of these positions, where p has the rank `rank p`.
-unfoldable pub sumOf : (ℕ → ℕ) → List ℕ → ℕ
-sumOf rank [] = 0
-sumOf rank (p ∷ l) = rank p + sumOf rank l
-
--- "sums of ranks stand where it has the count of a list" (document 02 (e)): the sum of a list.
-abbrev pub listSum : (ℕ → ℕ) → List ℕ → ℕ
-listSum rank l = sumOf rank (positions l)
 
 -- "Is there a count byte, and does the length equal 1 plus it? 31."
 unfoldable pub countRight : List ℕ → Bool
@@ -48,21 +38,15 @@ entriesNo n p (suc m) = thenNo (entriesNo n p m) (entryNo n p m)
 unfoldable pub listNo : ℕ → List ℕ → ℕ
 listNo n l = ask (countRight l) 31 (entriesNo n (positions l) (listCount l))
 
--- THE NUMBERING
-
--- "Is the last number below 9,999?"
-abbrev pub numberLeft : ℕ → Bool
-numberLeft last = ltb last 9999
-
--- "The next number."
-abbrev pub nextNumber : ℕ → ℕ
-nextNumber last = last + 1
-
--- MARK
+-- A MARK
 
 -- "Is a sheet loaded? 51." and then 31 to 33: what a mark asks of its list.
 unfoldable pub loadedListNo : Bool → ℕ → List ℕ → ℕ
 loadedListNo loaded n l = ask loaded 51 (listNo n l)
+
+-- "Is the last number below 9,999?"
+abbrev pub numberLeft : ℕ → Bool
+numberLeft last = ltb last 9999
 
 -- The first no of a mark, 0 if there is none; 52 comes last.
 unfoldable pub markNo : Bool → ℕ → ℕ → List ℕ → ℕ

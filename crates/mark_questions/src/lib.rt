@@ -1,9 +1,8 @@
 // The questions of a mark.
-use crate::numbering::number_left;
 ghost use mathlib.Core.Path.{_≡_};
 ghost use Prim.Native.Nat.{_<_};
 ghost use lib.ListN.{length};
-ghost use Rattle.desk.specs.Questions.{entryNo, entriesNo, listNo, loadedListNo, markNo};
+ghost use Rattle.mark_questions.specs.MarkQuestions.{entryNo, entriesNo, listNo, loadedListNo, numberLeft, markNo};
 
 // 32 and 33 of one entry, 0 for none.
 fn entry_no(n: u8, positions: &[u8], k: usize) -> u8
@@ -62,8 +61,15 @@ fn loaded_list_no(loaded: bool, n: u8, list: &[u8]) -> u8
     list_no(n, list)
 }
 
-// The first no of a mark, 0 for none.
-pub(crate) fn mark_no(loaded: bool, n: u8, last: u16, list: &[u8]) -> u8
+// A number is left after the last one.
+fn number_left(last: u16) -> bool
+    ensures { λ r. ⌜ r ≡ numberLeft last ⌝ }
+{
+    last < 9999
+}
+
+// The first no of a mark, 0 for none: whether a sheet is loaded, its n and the last number are the desk's.
+pub fn mark_no(loaded: bool, n: u8, last: u16, list: &[u8]) -> u8
     ensures { λ r. ⌜ r ≡ markNo loaded n last (now (list .entry)) ⌝ }
 {
     let no = loaded_list_no(loaded, n, list);

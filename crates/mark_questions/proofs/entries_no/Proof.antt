@@ -1,13 +1,13 @@
--- `desk::questions::entries_no` meets its contract. Assumes nothing.
+-- `mark_questions::entries_no` meets its contract. Assumes nothing.
 use mathlib.Core.Path.{_≡_, refl, sym, ap, _∙_}
 use Prim.Native.Nat.{_-_, _≤_}
 use lib.ListN.{length}
 use borrow.Author.Needs.{needs}
 use native.Mathlib.Omega.{arith}
-use Rattle.desk.specs.Questions.{entriesNo}
-use Rattle.desk.proofs.Laws.{entries-more, entries-first}
-use Rattle.desk.proofs.questions.entries_no.Statement.{statement}
-use Rattle.desk.proofs.questions.entries_no.Tie as tie
+use Rattle.mark_questions.specs.MarkQuestions.{entriesNo}
+use Rattle.mark_questions.proofs.Laws.{entries-more, entries-first}
+use Rattle.mark_questions.proofs.entries_no.Statement.{statement}
+use Rattle.mark_questions.proofs.entries_no.Tie as tie
 
 abbrev Inv-loop : tie.InvT-loop
 Inv-loop n positions k₀ k = (k ≤ length positions) × (entriesNo n positions k ≡ 0)

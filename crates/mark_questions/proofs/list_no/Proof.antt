@@ -1,15 +1,15 @@
--- `desk::questions::list_no` meets its contract. Assumes nothing.
+-- `mark_questions::list_no` meets its contract. Assumes nothing.
 use mathlib.Core.Path.{ap, _∙_}
 use lib.ListN.{length}
 use borrow.Author.Needs.{needs}
 use native.Mathlib.Omega.{arith}
+use Rattle.format.specs.Bytes.{all-after}
 use Rattle.format.specs.Asking.{ask-no, ask-yes}
-use Rattle.desk.specs.Questions.{entriesNo, listNo}
-use Rattle.desk.specs.Lists.{dec-counted}
+use Rattle.mark_questions.specs.MarkQuestions.{entriesNo, listNo}
+use Rattle.mark_questions.specs.Lists.{dec-counted}
 use Rattle.labeling.specs.Decide.{dec-false}
-use Rattle.desk.proofs.Laws.{all-after}
-use Rattle.desk.proofs.questions.list_no.Statement.{statement}
-use Rattle.desk.proofs.questions.list_no.Tie as tie
+use Rattle.mark_questions.proofs.list_no.Statement.{statement}
+use Rattle.mark_questions.proofs.list_no.Tie as tie
 
 returns : tie.Need-returns
 unfolding listNo
@@ -45,7 +45,7 @@ unfolding listNo
 returns-3 c =
     let l = c .before .before .before .before .before .before .args .list .now in
     ask-yes _ 31 _ _ (dec-counted l .of (omega arith, c .before .before .if2 .left))
-    (c .entries-no .ensures ∙ ap (λ p. entriesNo (c .before .before .before .before .before .before .args .n) p (length p)) (all-after l))
+    (c .entries-no .ensures ∙ ap (λ p. entriesNo (c .before .before .before .before .before .before .args .n) p (length p)) (all-after 1 l))
 
 pub list-no-spec : {M : Type 1} → statement M
 list-no-spec =

@@ -1,10 +1,10 @@
--- `desk::questions::loaded_list_no` meets its contract. Assumes nothing.
+-- `mark_questions::loaded_list_no` meets its contract. Assumes nothing.
 use borrow.Author.Tests.{not-true, not-false}
 use borrow.Author.Needs.{needs}
 use Rattle.format.specs.Asking.{ask-no, ask-yes}
-use Rattle.desk.specs.Questions.{listNo, loadedListNo}
-use Rattle.desk.proofs.questions.loaded_list_no.Statement.{statement}
-use Rattle.desk.proofs.questions.loaded_list_no.Tie as tie
+use Rattle.mark_questions.specs.MarkQuestions.{listNo, loadedListNo}
+use Rattle.mark_questions.proofs.loaded_list_no.Statement.{statement}
+use Rattle.mark_questions.proofs.loaded_list_no.Tie as tie
 
 returns : tie.Need-returns
 unfolding loadedListNo

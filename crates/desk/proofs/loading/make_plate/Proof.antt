@@ -1,7 +1,7 @@
--- `desk::loading::make_with` meets its contract. Assumes nothing.
+-- `desk::loading::make_plate` meets its contract. Assumes nothing.
 use borrow.Author.Needs.{needs}
-use Rattle.desk.proofs.loading.make_with.Statement.{statement}
-use Rattle.desk.proofs.loading.make_with.Tie as tie
+use Rattle.desk.proofs.loading.make_plate.Statement.{statement}
+use Rattle.desk.proofs.loading.make_plate.Tie as tie
 
 make-ranked-requires : tie.Need-make-ranked-requires
 make-ranked-requires c κs = search needs
@@ -28,8 +28,8 @@ same-length-4 c = search needs
 returns-2 : tie.Need-returns-2
 returns-2 c = rw (c .before .before .before .before .before .before .before .if1 .left) (c .before .before .before .before .make .ensures)
 
-pub make-with-spec : {M : Type 1} → statement M
-make-with-spec =
+pub make-plate-spec : {M : Type 1} → statement M
+make-plate-spec =
     tie.close
     (tie.spec
     make-ranked-requires
