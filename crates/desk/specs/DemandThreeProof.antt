@@ -37,7 +37,7 @@ use Rattle.mark_questions.specs.Lists.{Listed, none-list, choice-listed, none-m
 use Rattle.desk.specs.Desk.{sumOf, listSum, noSheet, nothingHeld, ranksHeld, rankHeld, heldOf, loadOutcome, verdictBy, verdictAt}
 use Rattle.desk.specs.Desk.{verdictOf, firstNo, markedDesk, verdictOutcome, markOutcome}
 use Rattle.desk.specs.DeskLaws.{load-yes, load-no, mark-yes, mark-no}
-use Rattle.desk.specs.Sums.{weight-most, inside-sum, sum-same, list-sum}
+use Rattle.desk.specs.Sums.{weight-below-most, inside-sum, sum-same, list-sum}
 use Rattle.desk.specs.Calls.{load, mark, Calls, noCalls, _andThen_, deskAfter, AcceptedLoad, accepts, loadedAfter}
 use Rattle.desk.specs.Calls.{Taken, lastTaken, pointsIn}
 use Rattle.desk.specs.Calls.{markedLists, lastNumber, markNoAfter, MarkedAfter, choiceOfList, ValidList, PlateMade, sectionRead}
@@ -316,9 +316,9 @@ ranks-held calls p l = by (lastTaken calls) (tied calls .sheet)
         rw q (ranks-up-to (pointCount (t .sheet)) (t .ranks) (h .2) p (omega arith))
 
 -- and the best is at most 288, 32 points of rank 9; so is the sum of every valid list (`VerdictRight.at-most`)
-pub best-most : (calls : Calls) → deskAfter calls .held .best ≤ 288
+pub best-held : (calls : Calls) → deskAfter calls .held .best ≤ 288
 unfolding SheetHeld weight
-best-most calls = by (lastTaken calls) (tied calls .sheet)
+best-held calls = by (lastTaken calls) (tied calls .sheet)
   where
     by : (o : Option Taken) → SheetHeld (deskAfter calls) o → deskAfter calls .held .best ≤ 288
     by none h = let e = ap (λ x. x .best) h in omega arith
@@ -327,7 +327,7 @@ best-most calls = by (lastTaken calls) (tied calls .sheet)
         let e = ap (λ x. x .best) (h .0) in
         let x = best-sum-reached P (rankIn (t .ranks)) (h .1 .proper .label-width .0) (h .3) in
         let m =
-        weight-most (rankIn (t .ranks)) (x .0) (pointCount (t .sheet))
+        weight-below-most (rankIn (t .ranks)) (x .0) (pointCount (t .sheet))
         (λ i l. ranks-up-to (pointCount (t .sheet)) (t .ranks) (h .2) i l .1) in
         omega (arith, x .2, h .1 .proper .few)
 

@@ -69,13 +69,13 @@ unfolding ranksBelow
 ranks-length rank zero = refl
 ranks-length rank (suc m) = omega (arith, length-append (ranksBelow rank m) (rank m ∷ []), ranks-length rank m)
 
-rank-below : (rank : ℕ → ℕ) (m p : ℕ) → p < m → getD (ranksBelow rank m) p 0 ≡ rank p
+ranks-at : (rank : ℕ → ℕ) (m p : ℕ) → p < m → getD (ranksBelow rank m) p 0 ≡ rank p
 unfolding ranksBelow
-rank-below rank zero p l = absurd (omega arith)
-rank-below rank (suc m) p l =
+ranks-at rank zero p l = absurd (omega arith)
+ranks-at rank (suc m) p l =
     same p m
     (λ e. rw e (getD-at (ranksBelow rank m) (rank m) [] 0 m (ranks-length rank m)))
-    (λ ne. List·getD-append (ranksBelow rank m) (rank m ∷ []) 0 p (omega (arith, ranks-length rank m)) ∙ rank-below rank m p (omega arith))
+    (λ ne. List·getD-append (ranksBelow rank m) (rank m ∷ []) 0 p (omega (arith, ranks-length rank m)) ∙ ranks-at rank m p (omega arith))
 
 -- one more is written
 pub ranks-more : (rank : ℕ → ℕ) (n m : ℕ) → m < n
@@ -93,7 +93,7 @@ pub rank-held : (s : List ℕ) (r : Option (List ℕ)) (p : ℕ) → p < pointCo
 unfolding padded
 rank-held s r p l =
     List·getD-append (ranksBelow (rankIn r) (pointCount s)) _ 0 p (omega (arith, ranks-length (rankIn r) (pointCount s)))
-    ∙ rank-below (rankIn r) (pointCount s) p l
+    ∙ ranks-at (rankIn r) (pointCount s) p l
 
 -- A PLATE AT THE START OF AN OUTPUT
 

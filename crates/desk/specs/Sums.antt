@@ -35,11 +35,11 @@ inside-sum rank S (suc m) =
     (λ e. rw (e, append-nil) (omega (arith, inside-sum rank S m)))
 
 -- with ranks up to 9, no choice of m positions weighs more than 9 each
-pub weight-most : (rank : ℕ → ℕ) (S : Choice) (m : ℕ) → ((i : ℕ) → i < m → rank i ≤ 9) → weightBelow rank S m ≤ 9 * m
+pub weight-below-most : (rank : ℕ → ℕ) (S : Choice) (m : ℕ) → ((i : ℕ) → i < m → rank i ≤ 9) → weightBelow rank S m ≤ 9 * m
 unfolding weightBelow
-weight-most rank S zero f = omega arith
-weight-most rank S (suc m) f =
-    let ih = weight-most rank S m (λ i l. f i (omega arith)) in
+weight-below-most rank S zero f = omega arith
+weight-below-most rank S (suc m) f =
+    let ih = weight-below-most rank S m (λ i l. f i (omega arith)) in
     let a = f m (omega arith) in
     decide (S m) (λ e. rw e (omega arith)) (λ e. rw e (omega arith))
 

@@ -17,7 +17,7 @@ use Rattle.desk.specs.declared.MarkAnswer.{MarkAnswer}
 use Rattle.desk.specs.declared.MarkAnswer.the-variants.{Marked, Refused}
 use Rattle.desk.specs.declared.Verdict.the-variants.{Valid, Clash}
 use Rattle.desk.specs.Calls.{Call, load, mark, Calls, noCalls, _andThen_, deskAfter, PlateMade}
-use Rattle.desk.specs.DemandThreeProof.{spare-zero as desk-spare-zero, best-most as desk-best-most, ranks-held as desk-ranks-held}
+use Rattle.desk.specs.DemandThreeProof.{spare-zero as desk-spare-zero, best-held as desk-best-held, ranks-held as desk-ranks-held}
 use Rattle.plate_export.specs.declared.MakeResult.{MakeResult}
 use Rattle.plate_export.specs.Exported.{MakingExported}
 use Rattle.plate_export.specs.ExportedDesk.{loadReply, answerReply, markReply}
@@ -52,8 +52,8 @@ pub spare-zero : (calls : Calls) → exportedAfter calls .held .spare ≡ 0
 spare-zero calls = ap (λ d. d .held .spare) (exported-desk-after calls) ∙ desk-spare-zero calls
 
 -- Its best is at most 288, 32 points of rank 9, and its ranks are 1 to 9, after any calls.
-pub best-most : (calls : Calls) → exportedAfter calls .held .best ≤ 288
-best-most calls = rw (exported-desk-after calls) (desk-best-most calls)
+pub best-held : (calls : Calls) → exportedAfter calls .held .best ≤ 288
+best-held calls = rw (exported-desk-after calls) (desk-best-held calls)
 
 pub ranks-held : (calls : Calls) (p : ℕ) → p < pointCount (exportedAfter calls .held .sheet)
     → UpTo 9 (rankHeld (exportedAfter calls .held .ranks) p)
