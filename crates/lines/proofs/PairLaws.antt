@@ -1,21 +1,12 @@
 -- Facts about outside pairs, for the loops that go through them. Assumes nothing.
 use mathlib.Core.Path.{_≡_, refl, sym, ap, _∙_}
 use mathlib.Core.List.{List, [], _∷_}
-use Prim.Native.Nat.{ℕ, suc, _+_, _≤_, _<_, max}
+use Prim.Native.Nat.{ℕ, _+_, _≤_, _<_, max}
 use lib.ListN.{length, getD, drop, length-drop}
-use lib.Seq.{drop-cons}
 use borrow.Author.Tests.{eq-eqb, ne-eqb}
-use native.Mathlib.Numerals.{add-one}
 use native.Mathlib.Omega.{arith}
+use Rattle.format.specs.Bytes.{pair-after}
 use Rattle.lines.specs.Listing.{margins, used, columnsUsed, marginOf}
-
--- a pair, and the bytes after it
-pair : (l : List ℕ) (at : ℕ) → at + 1 < length l → drop at l ≡ getD l at 0 ∷ getD l (at + 1) 0 ∷ drop (at + 2) l
-pair l at h =
-    let e : at + 2 ≡ suc (at + 1) = omega arith in
-    drop-cons l at 0 (omega arith)
-    ∙ ap (λ k. getD l at 0 ∷ drop k l) (sym (add-one at))
-    ∙ ap (λ t. getD l at 0 ∷ t) (drop-cons l (at + 1) 0 h ∙ ap (λ k. getD l (at + 1) 0 ∷ drop k l) (sym e))
 
 -- COLUMNS USED
 
@@ -34,7 +25,7 @@ module _ (l : List ℕ) (at u : ℕ) (e : max u (columnsUsed (drop at l)) ≡ co
   unfolding columnsUsed
   columns-more h =
       let p : columnsUsed (drop at l) ≡ max (getD l (at + 1) 0 + 1) (columnsUsed (drop (at + 2) l)) =
-      ap columnsUsed (pair l at h) ∙ used-more (getD l (at + 1) 0) (margins (drop (at + 2) l)) in
+      ap columnsUsed (pair-after at l h) ∙ used-more (getD l (at + 1) 0) (margins (drop (at + 2) l)) in
       omega arith
 
   pub columns-end : length l ≤ at + 1 → u ≡ columnsUsed l
@@ -51,11 +42,11 @@ margin-none i (j ∷ k ∷ l) h = absurd (omega arith)
 module _ (i : ℕ) (l : List ℕ) (at : ℕ) where
   pub margin-found : at + 1 < length l → getD l at 0 ≡ i → marginOf i (drop at l) ≡ getD l (at + 1) 0
   unfolding marginOf
-  margin-found h e = rw (pair l at h, eq-eqb i (getD l at 0) (sym e))
+  margin-found h e = rw (pair-after at l h, eq-eqb i (getD l at 0) (sym e))
 
   pub margin-more : at + 1 < length l → (getD l at 0 ≡ i → ⊥) → marginOf i (drop at l) ≡ marginOf i (drop (at + 2) l)
   unfolding marginOf
-  margin-more h ne = rw (pair l at h, ne-eqb i (getD l at 0) (λ e. ne (sym e)))
+  margin-more h ne = rw (pair-after at l h, ne-eqb i (getD l at 0) (λ e. ne (sym e)))
 
   pub margin-end : length l ≤ at + 1 → marginOf i (drop at l) ≡ 0
   margin-end h = margin-none i (drop at l) (rw (length-drop at l) (omega arith))

@@ -1,5 +1,5 @@
 -- Facts about the tests of a plate, for the proofs of this crate. Assumes nothing.
-use mathlib.Core.Path.{_≡_, refl, ap, _∙_}
+use mathlib.Core.Path.{_≡_, refl, _∙_}
 use mathlib.Core.Bool.{Bool, true, false, not, _&&_}
 use mathlib.Core.List.{List, [], _∷_}
 use Prim.Native.Nat.{ℕ, suc, _+_, _*_, _-_, _≤_, _<_}
@@ -13,7 +13,7 @@ use Rattle.labeling.specs.Points.{Points, Choice, before, nextMargin}
 use Rattle.labeling.specs.Decide.{same}
 use Rattle.format.specs.Sheet.{pointCount, pointsOf, plateSheetNo}
 use Rattle.format.specs.Accepted.{none-plate-sheet}
-use Rattle.format.specs.Bytes.{all-after}
+use Rattle.format.specs.Bytes.{all-after, pair-after}
 use Rattle.format.specs.Plate.{choiceOf}
 use Rattle.format.specs.Ascending.{belowNext, ascending}
 use Rattle.clash.specs.ChoiceFlags.{held, flagsOf, flags-hold}
@@ -99,22 +99,14 @@ module _ (P : Points) (S : Choice) (j k i m : ℕ) where
 -- 43: the pairs, at place `at` of the bytes
 
 module _ (P : Points) (S : Choice) (j k at : ℕ) (b : List ℕ) where
-  pub two-more : at + 1 < length b → drop at b ≡ getD b at 0 ∷ getD b (at + 1) 0 ∷ drop (at + 2) b
-  two-more l =
-      let one : drop at b ≡ getD b at 0 ∷ drop (at + 1) b = rw (add-one, drop-cons b at 0 (omega arith)) in
-      let place : suc (at + 1) ≡ at + 2 = omega arith in
-      let two : drop (at + 1) b ≡ getD b (at + 1) 0 ∷ drop (at + 2) b =
-      drop-cons b (at + 1) 0 l ∙ ap (λ n. getD b (at + 1) 0 ∷ drop n b) place in
-      one ∙ ap (λ t. getD b at 0 ∷ t) two
-
   pub after-no : at + 1 < length b → pairFollows P S j k (getD b at 0) (getD b (at + 1) 0) ≡ false → pairsAfter P S j k (drop at b) ≡ false
   unfolding pairsAfter
-  after-no l e = rw (two-more l, e)
+  after-no l e = rw (pair-after at b l, e)
 
   pub after-more : at + 1 < length b → pairFollows P S j k (getD b at 0) (getD b (at + 1) 0) ≡ true
       → pairsAfter P S j k (drop at b) ≡ pairsAfter P S (getD b at 0) (getD b (at + 1) 0) (drop (at + 2) b)
   unfolding pairsAfter
-  after-more l e = rw (two-more l, e)
+  after-more l e = rw (pair-after at b l, e)
 
   -- at the end, or with one byte left
   pub after-end : length b ≤ at + 1 → at ≤ length b → pairsAfter P S j k (drop at b) ≡ eqb at (length b)
