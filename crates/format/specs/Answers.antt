@@ -1,10 +1,7 @@
--- For each case of an answer, document 01's number and values. Assumes nothing.
-use mathlib.Core.Path.{_≡_, refl, sym, ap, _∙_}
-use mathlib.Core.Bool.{Bool, true, false, not, true≢false}
+-- What an answer says, whatever the call. Assumes nothing.
+use mathlib.Core.Bool.{Bool, not}
 use Prim.Native.Nat.{ℕ}
 use lib.Dec.{eqb}
-use Rattle.format.specs.declared.SheetAnswer.{SheetAnswer}
-use Rattle.format.specs.declared.SheetAnswer.the-variants.{Accepted, Refused}
 
 -- What an answer says: whether the call is refused, and the number of the first no (0 where nothing is refused).
 pub record Outcome : Type 0 where
@@ -14,25 +11,3 @@ pub record Outcome : Type 0 where
 -- The outcome of questions whose first no is k, 0 for none.
 abbrev pub outcomeOf : ℕ → Outcome
 outcomeOf k = record { refused = not (eqb k 0); no = k }
-
--- The cases of check_sheet's answer.
-abbrev pub sheetOutcome : SheetAnswer → Outcome
-sheetOutcome Accepted = record { refused = false; no = 0 }
-sheetOutcome (Refused k) = record { refused = true; no = k }
-
--- an outcome fixes the answer, constructor and number: so a refusal with number 0 is no answer to any sheet
-pub sheet-outcome-fixes : (a b : SheetAnswer) → sheetOutcome a ≡ sheetOutcome b → a ≡ b
-sheet-outcome-fixes Accepted Accepted e = refl
-sheet-outcome-fixes Accepted (Refused k) e = absurd (true≢false (λ i. sym e i .refused))
-sheet-outcome-fixes (Refused k) Accepted e = absurd (true≢false (λ i. e i .refused))
-sheet-outcome-fixes (Refused k) (Refused m) e = λ i. Refused (e i .no)
-
--- READING THE CONTRACT of check_sheet, where m is the sheet's first no
-
-pub accepted-none : (a : SheetAnswer) (m : ℕ) → sheetOutcome a ≡ outcomeOf m → a ≡ Accepted → m ≡ 0
-accepted-none a m e q = sym (λ i. (ap sheetOutcome (sym q) ∙ e) i .no)
-
-pub refused-no : (a : SheetAnswer) (k m : ℕ) → sheetOutcome a ≡ outcomeOf m → a ≡ Refused k → (k ≡ m) × (m ≡ 0 → ⊥)
-refused-no a k m e q =
-    let f : sheetOutcome (Refused k) ≡ outcomeOf m = ap sheetOutcome (sym q) ∙ e in
-    (λ i. f i .no, λ z. true≢false (λ i. (f ∙ ap outcomeOf z) i .refused))

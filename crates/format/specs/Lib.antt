@@ -5,11 +5,9 @@ pub mod RankList
 pub mod Plate
 pub mod Ascending
 pub mod MakingQuestions
--- Definitions that contracts and other crates' definitions cite: what an answer says, the walk over a sheet's points, a pixel as one
--- number, when two lists of bytes are the same, bytes in lent or longer arrays, and two stretches that overlap.
+-- Definitions that contracts and other crates' definitions cite: what an answer says, when two lists of bytes are the same, bytes in lent
+-- or longer arrays, and two stretches that overlap.
 pub mod Answers
-pub mod Reader
-pub mod PixelNumber
 pub mod Bytes
 pub mod Written
 pub mod Padded

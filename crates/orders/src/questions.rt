@@ -3,9 +3,9 @@ ghost use mathlib.Core.Path.{_≡_};
 ghost use Rattle.format.specs.Sheet.{ask};
 ghost use Rattle.format.specs.MakingQuestions.{workspaceNo, roomNo, askedNo};
 ghost use Rattle.format.specs.RankList.{lent};
-use format::SheetAnswer;
 use format::WORKSPACE_CELLS;
 use rank_list::ranks_no;
+use sheet_reader::SheetAnswer;
 
 // The first no of 21, which `fits` answers, and 22, 0 for none: the workspace has `cells` numbers.
 fn buffers_no(fits: bool, cells: usize) -> u8
@@ -24,7 +24,7 @@ fn buffers_no(fits: bool, cells: usize) -> u8
 fn room_no(sheet: &[u8], fits: bool, cells: usize) -> u8
     ensures { λ r. ⌜ r ≡ roomNo (now (sheet .entry)) fits cells ⌝ }
 {
-    match format::check_sheet(sheet) {
+    match sheet_reader::check_sheet(sheet) {
         SheetAnswer::Accepted => buffers_no(fits, cells),
         SheetAnswer::Refused(no) => no,
     }

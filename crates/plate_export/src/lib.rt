@@ -13,16 +13,16 @@ use desk::Desk;
 use desk::LoadAnswer;
 use desk::MarkAnswer;
 use desk::Verdict;
-use format::SheetAnswer;
 use plate_maker::MakeAnswer;
 use plate_reader::PlateAnswer;
+use sheet_reader::SheetAnswer;
 
-// The number of the first no of a sheet, 0 if it is accepted: format::check_sheet.
+// The number of the first no of a sheet, 0 if it is accepted: sheet_reader::check_sheet.
 #[no_mangle]
 pub extern "C" fn plate_check_sheet(sheet: &[u8]) -> u32
     ensures { λ r. ⌜ r ≡ sheetNo (now (sheet .entry)) ⌝ }
 {
-    match format::check_sheet(sheet) {
+    match sheet_reader::check_sheet(sheet) {
         SheetAnswer::Accepted => 0,
         SheetAnswer::Refused(no) => no as u32,
     }

@@ -1,6 +1,6 @@
 -- `orders::questions::room_no` meets its contract. Assumes nothing.
 use borrow.Author.Needs.{needs}
-use Rattle.format.specs.Answers.{accepted-none, refused-no}
+use Rattle.sheet_reader.specs.SheetAnswers.{accepted-none, refused-no}
 use Rattle.format.specs.Asking.{then-later, then-first}
 use Rattle.format.specs.MakingQuestions.{roomNo}
 use Rattle.orders.proofs.questions.room_no.Statement.{statement}

@@ -1,0 +1,3 @@
+mod Branches
+mod Laws
+mod ReaderParts

@@ -1,0 +1,13 @@
+-- `sheet_reader::up_to` meets its contract. Assumes nothing.
+use borrow.Author.Tests.{lt-leb, le-leb}
+use Rattle.sheet_reader.proofs.up_to.Statement.{statement}
+use Rattle.sheet_reader.proofs.up_to.Tie as tie
+
+returns : tie.Need-returns
+returns c = simp (lt-leb 1 _ (c .if1 .taken))
+
+returns-2 : tie.Need-returns-2
+returns-2 c = simp (le-leb 1 _ (c .if1 .left))
+
+pub up-to-spec : {M : Type 1} → statement M
+up-to-spec = tie.close (tie.spec returns returns-2)
