@@ -25,7 +25,9 @@ add-result c = search needs
 reach : (c : tie.After-close-below)
     → c .close-below .result
     ≡ (let a = c .before .before .before .before .before .args in closeBelow (pointsOf (a .sheet .now)) (a .previous) (a .position))
-reach c = cc
+reach c =
+    rw (← c .before .before .before .row .ensures, ← c .before .before .row2 .ensures, ← c .before .label-height .ensures)
+    (c .close-below .ensures)
 
 returns : tie.Need-returns
 returns c =
