@@ -39,7 +39,9 @@ height-reached : (c : tie.After-within)
     → c .within .result
     ≡ (let a = c .before .before .before .before .before .before .args in
     ltb (row (a .sheet .now) (a .j)) (row (a .sheet .now) (a .i) + labelHeight (a .sheet .now)))
-height-reached c = cc
+height-reached c =
+    rw (← c .before .before .before .before .row .ensures, ← c .before .before .before .row2 .ensures, ← c .before .label-height .ensures)
+    (c .within .ensures)
 
 column-requires : tie.Need-column-requires
 column-requires c κs = search needs

@@ -2,7 +2,7 @@
 use borrow.Author.Needs.{needs}
 use mathlib.Core.Path.{_≡_, sym, _∙_}
 use Rattle.format.specs.Sheet.{pointsOf}
-use Rattle.clash.proofs.Laws.{columnsMeet, rowsMeet, overlap-no, overlap-rows}
+use Rattle.clash.proofs.Laws.{columnsMeet, overlap-no, overlap-rows}
 use Rattle.clash.proofs.labels_overlap.Statement.{statement}
 use Rattle.clash.proofs.labels_overlap.Tie as tie
 
@@ -23,7 +23,9 @@ columns : (c : tie.After-stretches-overlap)
     → c .stretches-overlap .result
     ≡ columnsMeet (pointsOf (c .before .before .before .before .before .args .sheet .now))
     (c .before .before .before .before .before .args .i) (c .before .before .before .before .before .args .j)
-columns c = cc
+columns c =
+    rw (← c .before .before .before .column .ensures, ← c .before .before .column2 .ensures, ← c .before .label-width .ensures)
+    (c .stretches-overlap .ensures)
 
 row-requires : tie.Need-row-requires
 row-requires c κs = search needs
@@ -40,9 +42,10 @@ stretches-overlap-requires-2 c κs = search needs
 returns : tie.Need-returns
 returns c =
     let a = c .before .before .before .before .before .before .before .before .before .before .args in
-    let rows : c .stretches-overlap2 .result ≡ rowsMeet (pointsOf (a .sheet .now)) (a .i) (a .j) = cc in
     overlap-rows (pointsOf (a .sheet .now)) (a .i) (a .j) _
-    (sym (columns (c .before .before .before .before .before)) ∙ c .before .before .before .before .if1 .taken) rows
+    (sym (columns (c .before .before .before .before .before)) ∙ c .before .before .before .before .if1 .taken)
+    (rw (← c .before .before .before .row .ensures, ← c .before .before .row2 .ensures, ← c .before .label-height .ensures)
+    (c .stretches-overlap2 .ensures))
 
 returns-2 : tie.Need-returns-2
 returns-2 c =
