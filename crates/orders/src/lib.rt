@@ -6,16 +6,15 @@ ghost use Rattle.orders.specs.BothOrders.{BothOrders};
 ghost use Rattle.orders.specs.Ordering.{Ordering};
 use crate::layout::ARRAY_CELLS;
 use height_order::write_points;
+use making_questions::asked_no;
 use numbers::blank;
 use numbers::write_numbers;
-use questions::asked_no;
 use right_order::write_right_order;
 
 mod given;
 mod height_order;
 pub mod layout;
 mod numbers;
-mod questions;
 mod ranks;
 mod right_order;
 

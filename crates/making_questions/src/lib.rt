@@ -1,4 +1,5 @@
-// The questions before the choice.
+// The questions of a making before the choice: the sheet's, then 21 and 22, then those of the rank list, if one is lent. How large an
+// output must be is the makings' to know, so 21 comes with its answer, `fits`; of the workspace only the length is asked.
 ghost use mathlib.Core.Path.{_≡_};
 ghost use Rattle.format.specs.Sheet.{ask};
 ghost use Rattle.format.specs.MakingQuestions.{workspaceNo, roomNo, askedNo};
@@ -30,8 +31,8 @@ fn room_no(sheet: &[u8], fits: bool, cells: usize) -> u8
     }
 }
 
-// The first no of these and the rank list's, 0 for none.
-pub(crate) fn asked_no(sheet: &[u8], ranked: bool, ranks: &[u8], fits: bool, cells: usize) -> u8
+// The first no of these, and then the rank list's, 0 for none.
+pub fn asked_no(sheet: &[u8], ranked: bool, ranks: &[u8], fits: bool, cells: usize) -> u8
     ensures { λ r. ⌜ r ≡ askedNo (now (sheet .entry)) (lent ranked (now (ranks .entry))) fits cells ⌝ }
 {
     let no = room_no(sheet, fits, cells);

@@ -1,10 +1,10 @@
--- `orders::questions::room_no` meets its contract. Assumes nothing.
+-- `making_questions::room_no` meets its contract. Assumes nothing.
 use borrow.Author.Needs.{needs}
 use Rattle.sheet_reader.specs.SheetAnswers.{accepted-none, refused-no}
 use Rattle.format.specs.Asking.{then-later, then-first}
 use Rattle.format.specs.MakingQuestions.{roomNo}
-use Rattle.orders.proofs.questions.room_no.Statement.{statement}
-use Rattle.orders.proofs.questions.room_no.Tie as tie
+use Rattle.making_questions.proofs.room_no.Statement.{statement}
+use Rattle.making_questions.proofs.room_no.Tie as tie
 
 check-sheet-requires : tie.Need-check-sheet-requires
 check-sheet-requires c κs = search needs

@@ -1,4 +1,4 @@
--- `orders::questions::buffers_no` meets its contract. Assumes nothing.
+-- `making_questions::buffers_no` meets its contract. Assumes nothing.
 use borrow.Author.Tests.{le-leb, lt-leb, not-true, not-false}
 use mathlib.Core.Path.{refl}
 use Prim.Native.Nat.{_≤_, _<_}
@@ -6,8 +6,8 @@ use native.Mathlib.Omega.{arith}
 use Rattle.format.specs.Asking.{ask-no, ask-yes}
 use Rattle.format.specs.Sizes.{workspaceCells}
 use Rattle.format.specs.MakingQuestions.{workspaceNo}
-use Rattle.orders.proofs.questions.buffers_no.Statement.{statement}
-use Rattle.orders.proofs.questions.buffers_no.Tie as tie
+use Rattle.making_questions.proofs.buffers_no.Statement.{statement}
+use Rattle.making_questions.proofs.buffers_no.Tie as tie
 
 returns : tie.Need-returns
 returns c = ask-no (c .before .args .fits) 21 (workspaceNo (c .before .args .cells)) (not-true (c .before .args .fits) (c .if1 .taken))

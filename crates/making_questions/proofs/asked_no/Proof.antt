@@ -1,11 +1,11 @@
--- `orders::questions::asked_no` meets its contract. Assumes nothing.
+-- `making_questions::asked_no` meets its contract. Assumes nothing.
 use borrow.Author.Needs.{needs}
 use mathlib.Core.Path.{ap, sym, _∙_}
 use Rattle.format.specs.RankList.{ranksNo, lent}
 use Rattle.format.specs.Asking.{then-later, then-first}
 use Rattle.format.specs.MakingQuestions.{askedNo}
-use Rattle.orders.proofs.questions.asked_no.Statement.{statement}
-use Rattle.orders.proofs.questions.asked_no.Tie as tie
+use Rattle.making_questions.proofs.asked_no.Statement.{statement}
+use Rattle.making_questions.proofs.asked_no.Tie as tie
 
 room-no-requires : tie.Need-room-no-requires
 room-no-requires c κs = search needs
