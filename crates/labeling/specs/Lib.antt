@@ -16,24 +16,8 @@ pub mod ConflictTable
 pub mod Greatest
 pub mod Preferred
 pub mod Looks
--- THE OPTIMUM: the recurrence for points in height order, and that it is the best over pixels (Optimum, Positions). Safe are the points
--- whose cut needn't be tried, Comparisons the tests as a program makes them, and TieBreak weights that find the preferred choice.
-pub mod Recurrence
-pub mod Optimum
-pub mod Positions
-pub mod Safe
-pub mod Comparisons
-pub mod TieBreak
--- BOOKKEEPING: cases and tests; choices and weights that agree; the halves of the optimum's proof, step by step.
+-- BOOKKEEPING: cases and tests; choices and weights that agree.
 pub mod Decide
 pub mod Tests
 pub mod Agree
 pub mod SameWeights
-pub mod RecurrenceTests
-pub mod Joins
-pub mod Slabs
-pub mod NoBetter
-pub mod Recovered
-pub mod Reached
-pub mod Totals
-pub mod Sums

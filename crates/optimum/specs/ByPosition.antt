@@ -5,7 +5,7 @@ use Prim.Native.Nat.{ℕ, _+_, _≤_, _<_}
 use native.Mathlib.Omega.{arith}
 use lib.ListN.{length, getD, set}
 use lib.Seq.{getD-set-same, getD-set-other}
-use Rattle.labeling.specs.Recurrence.{Point}
+use Rattle.recurrence.specs.Recurrence.{Point}
 use Rattle.labeling.specs.Decide.{same}
 use Rattle.orders.specs.Arrays.{heightsOf, positionAt}
 use Rattle.optimum.specs.Split.{Numbered}

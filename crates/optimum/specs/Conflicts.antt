@@ -7,10 +7,10 @@ use lib.Dec.{ltb, leb, eqb}
 use native.Mathlib.Omega.{arith}
 use borrow.Author.Tests.{lt-ltb, le-ltb, le-leb, leb-true, eq-eqb, ne-eqb}
 use Rattle.labeling.specs.Decide.{same, not-both, less, dec-false}
-use Rattle.labeling.specs.Recurrence.{Heights, Point, Sorted, overlaps, reachesOver, reach, mayBeInside, rowsDiffer}
-use Rattle.labeling.specs.RecurrenceTests.{Reaches, dec-reaches, Between}
-use Rattle.labeling.specs.Safe.{unreached, dec-unreached}
-use Rattle.labeling.specs.Comparisons.{highOf, topOf, reach-top, may-be-inside-compared}
+use Rattle.recurrence.specs.Recurrence.{Heights, Point, Sorted, overlaps, reachesOver, reach, mayBeInside, rowsDiffer}
+use Rattle.recurrence.specs.RecurrenceTests.{Reaches, dec-reaches, Between}
+use Rattle.recurrence.specs.Safe.{unreached, dec-unreached}
+use Rattle.recurrence.specs.Comparisons.{highOf, topOf, reach-top, may-be-inside-compared}
 use Rattle.format.specs.Stretches.{stretchesOverlap}
 use Rattle.optimum.specs.Limits.{labelBelow}
 

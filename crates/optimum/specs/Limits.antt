@@ -9,9 +9,9 @@ use lib.ListN.{length, getD, set, length-set}
 use lib.Seq.{getD-set-same, getD-set-other}
 use borrow.Author.Tests.{leb-true, leb-false}
 use Rattle.labeling.specs.Decide.{same, not-both, Decides, dec-and, dec-le, dec-lt, less, dec-unique, dec-map}
-use Rattle.labeling.specs.Recurrence.{Heights, Point, Sorted, reachesOver, greatest}
-use Rattle.labeling.specs.RecurrenceTests.{dec-reaches}
-use Rattle.labeling.specs.Comparisons.{least, Passes, greatest-unique, least-unique, overlapsAbove, highOf, topOf, dec-high}
+use Rattle.recurrence.specs.Recurrence.{Heights, Point, Sorted, reachesOver, greatest}
+use Rattle.recurrence.specs.RecurrenceTests.{dec-reaches}
+use Rattle.recurrence.specs.Comparisons.{least, Passes, greatest-unique, least-unique, overlapsAbove, highOf, topOf, dec-high}
 use Rattle.orders.specs.Arrays.{heightsOf, positionAt}
 use Rattle.orders.specs.Words.{valueAt}
 use Rattle.orders.specs.Layout.{fieldCells, rowField, rankField, atRankField, topField, highField, triangularField, weightField}

@@ -6,7 +6,7 @@ use lib.ListN.{length, set, length-set}
 use lib.Seq.{getD-set-same, getD-set-other}
 use native.Mathlib.Omega.{arith}
 use Rattle.labeling.specs.Decide.{same, less}
-use Rattle.labeling.specs.Recurrence.{Heights}
+use Rattle.recurrence.specs.Recurrence.{Heights}
 use Rattle.orders.specs.Arrays.{heightsOf}
 use Rattle.orders.specs.Sums.{tet}
 use Rattle.optimum.specs.Places.{entries, notes, place-same, place-rows}

@@ -9,11 +9,11 @@ use lib.Dec.{ltb}
 use borrow.Author.Tests.{ltb-true, ltb-false}
 use native.Mathlib.Omega.{arith}
 use Rattle.labeling.specs.Points.{Points, Choice, Distinct, outsideBelow, outside, among}
-use Rattle.labeling.specs.Recurrence.{Heights, Point, Sorted}
+use Rattle.recurrence.specs.Recurrence.{Heights, Point, Sorted}
 use Rattle.labeling.specs.Decide.{decide, same}
 use Rattle.labeling.specs.Margin.{among-head, among-tail, among-rest, among-none, outside-lists}
 use Rattle.labeling.specs.Order.{Before, First, Ordered, outside-is, outside-ordered, ordered-unique}
-use Rattle.labeling.specs.Positions.{Arranged}
+use Rattle.recurrence.specs.Positions.{Arranged}
 use Rattle.optimum.specs.Split.{outsideDown}
 
 -- THE LIST

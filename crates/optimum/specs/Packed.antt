@@ -3,9 +3,9 @@ use mathlib.Core.Path.{_≡_}
 use mathlib.Core.List.{List}
 use Prim.Native.Nat.{ℕ, suc, _+_, _≤_, _<_}
 use lib.ListN.{getD}
-use Rattle.labeling.specs.Recurrence.{Point, Sorted, total}
-use Rattle.labeling.specs.Totals.{all}
-use Rattle.labeling.specs.Comparisons.{highOf, topOf}
+use Rattle.recurrence.specs.Recurrence.{Point, Sorted, total}
+use Rattle.recurrence.specs.Totals.{all}
+use Rattle.recurrence.specs.Comparisons.{highOf, topOf}
 use Rattle.orders.specs.Sums.{tri, tet}
 use Rattle.orders.specs.Arrays.{heightsOf}
 use Rattle.orders.specs.Layout.{sumCells, topField, highField, triangularField, tetrahedralField, weightBound}

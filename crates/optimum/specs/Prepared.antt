@@ -3,9 +3,9 @@ use mathlib.Core.Path.{sym, _∙_, ap}
 use mathlib.Core.List.{List}
 use Prim.Native.Nat.{ℕ, suc, _+_}
 use native.Mathlib.Omega.{arith}
-use Rattle.labeling.specs.Totals.{all}
-use Rattle.labeling.specs.Recurrence.{total}
-use Rattle.labeling.specs.Positions.{Arranged}
+use Rattle.recurrence.specs.Totals.{all}
+use Rattle.recurrence.specs.Recurrence.{total}
+use Rattle.recurrence.specs.Positions.{Arranged}
 use Rattle.format.specs.Sheet.{pointsOf}
 use Rattle.orders.specs.Arrays.{heightsOf, positionAt}
 use Rattle.orders.specs.Given.{weightOf, weight-some, permitted}

@@ -9,9 +9,9 @@ use lib.ListN.{getD, length, set, length-set}
 use lib.Seq.{getD-set-same, getD-set-other}
 use borrow.Author.Tests.{ltb-true, ltb-false, eqb-true, lt-ltb, le-ltb, le-leb, lt-leb}
 use Rattle.labeling.specs.Decide.{not-both, decide, same, and-right, or-rest, dec-false, dec-map, dec-unique, false-of}
-use Rattle.labeling.specs.Recurrence.{Heights, between, reach, value, takesIn, recovered}
-use Rattle.labeling.specs.RecurrenceTests.{Between, dec-between, CanOut, recovered-skip, recovered-in, recovered-out}
-use Rattle.labeling.specs.Recovered.{takes-out, value-down, recovered-down}
+use Rattle.recurrence.specs.Recurrence.{Heights, between, reach, value, takesIn, recovered}
+use Rattle.recurrence.specs.RecurrenceTests.{Between, dec-between, CanOut, recovered-skip, recovered-in, recovered-out}
+use Rattle.recurrence.specs.Recovered.{takes-out, value-down, recovered-down}
 use Rattle.orders.specs.Arrays.{heightsOf}
 use Rattle.orders.specs.Layout.{fieldCells}
 use Rattle.optimum.specs.Packed.{Packed}

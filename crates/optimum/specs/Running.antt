@@ -7,11 +7,11 @@ use native.Mathlib.Numerals.{add-one}
 use native.Mathlib.Omega.{arith}
 use borrow.Author.Tests.{not-true, not-false, lt-ltb, le-ltb}
 use Rattle.labeling.specs.Decide.{not-both, same, and-left, and-right, less, dec-false}
-use Rattle.labeling.specs.Recurrence.{Heights, Sorted, between, value, plus, join, inValue, takesIn}
-use Rattle.labeling.specs.RecurrenceTests.{Between, dec-between, value-zero, value-skip, value-step}
-use Rattle.labeling.specs.Joins.{plus-most, join-none, join-first, join-last, join-less, join-rises, join-max-high, join-plus}
-use Rattle.labeling.specs.Recovered.{TakesDown}
-use Rattle.labeling.specs.Safe.{Safe, unreached, dec-unreached, safe-outside, safe-inside}
+use Rattle.recurrence.specs.Recurrence.{Heights, Sorted, between, value, plus, join, inValue, takesIn}
+use Rattle.recurrence.specs.RecurrenceTests.{Between, dec-between, value-zero, value-skip, value-step}
+use Rattle.recurrence.specs.Joins.{plus-most, join-none, join-first, join-last, join-less, join-rises, join-max-high, join-plus}
+use Rattle.recurrence.specs.Recovered.{TakesDown}
+use Rattle.recurrence.specs.Safe.{Safe, unreached, dec-unreached, safe-outside, safe-inside}
 use Rattle.orders.specs.Arrays.{heightsOf}
 use Rattle.orders.specs.Layout.{weightBound}
 use Rattle.optimum.specs.Slabs.{openBelow, slabHas, slabBelow, slabValue, slabInside, slabOut, slabIn}

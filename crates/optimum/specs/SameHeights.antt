@@ -4,11 +4,11 @@ use mathlib.Core.Bool.{Bool, cond}
 use Prim.Native.Nat.{ℕ, zero, suc, _≤_, _<_}
 use native.Mathlib.Omega.{arith}
 use Rattle.labeling.specs.Points.{Points}
-use Rattle.labeling.specs.Totals.{all}
-use Rattle.labeling.specs.Recurrence.{Heights, Point, Sorted, overlaps, reachesOver, greatest, total}
-use Rattle.labeling.specs.RecurrenceTests.{greatest-same}
-use Rattle.labeling.specs.Comparisons.{least, overlapsAbove, highOf, topOf}
-use Rattle.labeling.specs.Positions.{Arranged}
+use Rattle.recurrence.specs.Totals.{all}
+use Rattle.recurrence.specs.Recurrence.{Heights, Point, Sorted, overlaps, reachesOver, greatest, total}
+use Rattle.recurrence.specs.RecurrenceTests.{greatest-same}
+use Rattle.recurrence.specs.Comparisons.{least, overlapsAbove, highOf, topOf}
+use Rattle.recurrence.specs.Positions.{Arranged}
 use Rattle.orders.specs.Layout.{fieldCells}
 
 -- G has the same points as H, of which there are few, and the same ranks of the boundaries.

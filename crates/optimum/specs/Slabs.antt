@@ -4,7 +4,7 @@ use mathlib.Core.Path.{_≡_}
 use mathlib.Core.Bool.{Bool, true, _||_}
 use Prim.Native.Nat.{ℕ, suc, _≤_, _<_, min}
 use lib.Dec.{eqb}
-use Rattle.labeling.specs.Recurrence.{Heights, reachesOver, between, mayBeInside, value, outValue, inValue, takesIn, recovered}
+use Rattle.recurrence.specs.Recurrence.{Heights, reachesOver, between, mayBeInside, value, outValue, inValue, takesIn, recovered}
 use Rattle.optimum.specs.Places.{placeOf}
 use Rattle.optimum.specs.declared.table.Slab.{Slab}
 

@@ -6,8 +6,8 @@ use Prim.Native.Nat.{ℕ, zero, suc, _≤_, _<_}
 use lib.Dec.{eqb}
 use lib.ListN.{length, getD}
 use Rattle.labeling.specs.Points.{Points, Choice}
-use Rattle.labeling.specs.Recurrence.{Point}
-use Rattle.labeling.specs.Positions.{Arranged}
+use Rattle.recurrence.specs.Recurrence.{Point}
+use Rattle.recurrence.specs.Positions.{Arranged}
 use Rattle.orders.specs.Arrays.{heightsOf, positionAt}
 use Rattle.format.specs.Written.{written}
 use native.Mathlib.Omega.{arith}

@@ -8,10 +8,10 @@ use native.Mathlib.Omega.{arith}
 use lib.Dec.{eqb, ltb}
 use borrow.Author.Tests.{ltb-true, ltb-false}
 use Rattle.labeling.specs.Decide.{decide, same, or-right, dec-eq, less, dec-false}
-use Rattle.labeling.specs.Recurrence.{Heights, Point, between, reach, value, join, outValue, rowsDiffer, total}
-use Rattle.labeling.specs.RecurrenceTests.{Between, dec-between, Reaches, dec-reaches, Reached, reach-is, newer, older, nobody}
-use Rattle.labeling.specs.Joins.{join-none}
-use Rattle.labeling.specs.Totals.{all, value-bound}
+use Rattle.recurrence.specs.Recurrence.{Heights, Point, between, reach, value, join, outValue, rowsDiffer, total}
+use Rattle.recurrence.specs.RecurrenceTests.{Between, dec-between, Reaches, dec-reaches, Reached, reach-is, newer, older, nobody}
+use Rattle.recurrence.specs.Joins.{join-none}
+use Rattle.recurrence.specs.Totals.{all, value-bound}
 use Rattle.orders.specs.Arrays.{heightsOf}
 use Rattle.orders.specs.Sums.{tri, tet}
 use Rattle.orders.specs.Layout.{fieldCells, weightBound}

@@ -5,8 +5,8 @@ use mathlib.Core.List.{List}
 use Prim.Native.Nat.{ℕ, suc, _+_, _-_, _*_, _≤_, _<_, max}
 use lib.Dec.{ltb, leb}
 use lib.ListN.{getD, length, set}
-use Rattle.labeling.specs.Recurrence.{Heights, Point, between, value, join, recovered}
-use Rattle.labeling.specs.Recovered.{TakesDown}
+use Rattle.recurrence.specs.Recurrence.{Heights, Point, between, value, join, recovered}
+use Rattle.recurrence.specs.Recovered.{TakesDown}
 use Rattle.orders.specs.Arrays.{heightsOf}
 use Rattle.orders.specs.Sums.{tet}
 use Rattle.orders.specs.Layout.{fieldCells, weightBound}

@@ -1,7 +1,7 @@
 // Which labels overlap, and which points may be inside: the tests of the recurrence, as comparisons of numbers.
 ghost use mathlib.Core.Path.{_≡_};
 ghost use Prim.Native.Nat.{_+_, _<_, _≤_};
-ghost use Rattle.labeling.specs.Recurrence.{Point, overlaps, reachesOver, reach, mayBeInside, rowsDiffer};
+ghost use Rattle.recurrence.specs.Recurrence.{Point, overlaps, reachesOver, reach, mayBeInside, rowsDiffer};
 ghost use Rattle.orders.specs.Arrays.{heightsOf};
 ghost use Rattle.optimum.specs.Packed.{Packed};
 ghost use Rattle.format.specs.Stretches.{stretchesOverlap};

@@ -1,8 +1,8 @@
 // Top and high of each point.
 ghost use mathlib.Core.Path.{_≡_};
 ghost use Prim.Native.Nat.{_+_, _<_};
-ghost use Rattle.labeling.specs.Recurrence.{Point};
-ghost use Rattle.labeling.specs.Comparisons.{highOf, topOf};
+ghost use Rattle.recurrence.specs.Recurrence.{Point};
+ghost use Rattle.recurrence.specs.Comparisons.{highOf, topOf};
 ghost use Rattle.orders.specs.Arrays.{heightsOf};
 ghost use Rattle.optimum.specs.Limits.{labelBelow, columnWithin, InOrder, Limited};
 ghost use Rattle.orders.specs.Layout.{fieldCells};

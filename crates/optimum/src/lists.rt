@@ -2,7 +2,7 @@
 ghost use mathlib.Core.Path.{_≡_};
 ghost use Prim.Native.Nat.{ℕ, _<_, _≤_};
 ghost use lib.ListN.{length, getD, replicate};
-ghost use Rattle.labeling.specs.Recurrence.{Point};
+ghost use Rattle.recurrence.specs.Recurrence.{Point};
 ghost use Rattle.format.specs.Plate.{insideBelow};
 ghost use Rattle.orders.specs.Arrays.{heightsOf, positionAt};
 ghost use Rattle.format.specs.Written.{written};

@@ -2,8 +2,8 @@
 ghost use mathlib.Core.Path.{_≡_};
 ghost use Prim.Native.Nat.{_+_, _*_, _<_};
 ghost use lib.ListN.{getD};
-ghost use Rattle.labeling.specs.Recurrence.{Point};
-ghost use Rattle.labeling.specs.Comparisons.{highOf, topOf};
+ghost use Rattle.recurrence.specs.Recurrence.{Point};
+ghost use Rattle.recurrence.specs.Comparisons.{highOf, topOf};
 ghost use Rattle.orders.specs.Arrays.{heightsOf};
 ghost use Rattle.optimum.specs.Packed.{Packed};
 ghost use Rattle.orders.specs.Sums.{tri, tet};

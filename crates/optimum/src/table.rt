@@ -3,7 +3,7 @@
 ghost use mathlib.Core.Path.{_≡_};
 ghost use Prim.Native.Nat.{_+_, _*_, _<_};
 ghost use lib.ListN.{length};
-ghost use Rattle.labeling.specs.Recurrence.{between};
+ghost use Rattle.recurrence.specs.Recurrence.{between};
 ghost use Rattle.optimum.specs.Packed.{Packed};
 ghost use Rattle.orders.specs.Words.{valueAt, withValue};
 ghost use Rattle.optimum.specs.Entries.{noteAt, withEntry};

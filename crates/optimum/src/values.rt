@@ -2,8 +2,8 @@
 ghost use mathlib.Core.Path.{_≡_};
 ghost use mathlib.Core.Bool.{_&&_};
 ghost use Prim.Native.Nat.{suc, _+_, _<_, _≤_, min, _*_};
-ghost use Rattle.labeling.specs.Recurrence.{join};
-ghost use Rattle.labeling.specs.Safe.{unreached};
+ghost use Rattle.recurrence.specs.Recurrence.{join};
+ghost use Rattle.recurrence.specs.Safe.{unreached};
 ghost use Rattle.orders.specs.Arrays.{heightsOf};
 ghost use Rattle.optimum.specs.Packed.{Packed};
 ghost use Rattle.optimum.specs.Slabs.{openBelow};

@@ -4,7 +4,7 @@ use mathlib.Core.List.{List}
 use Prim.Native.Nat.{ℕ, _+_}
 use lib.Dec.{eqb}
 use lib.ListN.{getD}
-use Rattle.labeling.specs.Recurrence.{Heights}
+use Rattle.recurrence.specs.Recurrence.{Heights}
 use Rattle.orders.specs.Layout.{rowField, rankField, atRankField, weightField, allowedField}
 use Rattle.orders.specs.Layout.{positionField, countCell, widthCell, heightCell}
 use Rattle.orders.specs.Words.{valueAt}

@@ -7,8 +7,8 @@ use lib.Dec.{eqb}
 use native.Mathlib.Omega.{arith}
 use Rattle.labeling.specs.Marks.{labelOnMapB}
 use Rattle.labeling.specs.Tests.{dec-label-on-map}
-use Rattle.labeling.specs.TieBreak.{tieBreak, tieBroken, tie-pos, tie-most}
-use Rattle.labeling.specs.Positions.{Permits}
+use Rattle.recurrence.specs.TieBreak.{tieBreak, tieBroken, tie-pos, tie-most}
+use Rattle.recurrence.specs.Positions.{Permits}
 use Rattle.format.specs.Sheet.{pointsOf}
 
 -- The weight of position p, where i has the rank `rank i`: it weighs as its rank, but that ties are broken in sheet order.
@@ -34,7 +34,7 @@ pub weight-is : (rank : ℕ → ℕ) (p : ℕ) → weightOf rank p ≡ rank p * 
 unfolding weightOf tieBroken
 weight-is rank p = refl
 
--- They break ties (labeling's TieBreak.antt): a best choice by them is the preferred one by ranks.
+-- They break ties (recurrence's TieBreak.antt): a best choice by them is the preferred one by ranks.
 pub weight-breaks : (rank : ℕ → ℕ) → weightOf rank ≡ tieBroken rank
 unfolding weightOf
 weight-breaks rank = refl

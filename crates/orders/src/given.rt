@@ -2,7 +2,7 @@
 ghost use mathlib.Core.Path.{_≡_};
 ghost use Prim.Native.Nat.{ℕ, _+_, _<_, _≤_};
 ghost use lib.ListN.{length, getD};
-ghost use Rattle.labeling.specs.TieBreak.{tieBreak};
+ghost use Rattle.recurrence.specs.TieBreak.{tieBreak};
 ghost use Rattle.format.specs.RankList.{rankIn, lent};
 ghost use Rattle.orders.specs.Words.{withValue};
 ghost use Rattle.orders.specs.Given.{weightOf, permitted, permission};

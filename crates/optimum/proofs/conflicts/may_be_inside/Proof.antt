@@ -4,7 +4,7 @@ use mathlib.Core.Bool.{Bool}
 use lib.Dec.{leb}
 use borrow.Author.Tests.{not-true, not-false, le-leb, lt-leb}
 use borrow.Author.Needs.{needs}
-use Rattle.labeling.specs.Recurrence.{Heights, mayBeInside}
+use Rattle.recurrence.specs.Recurrence.{Heights, mayBeInside}
 use Rattle.format.specs.Asking.{and-no, and-yes}
 use Rattle.orders.specs.Arrays.{heightsOf}
 use Rattle.optimum.specs.Conflicts.{besideReaching, belowUpper, belowHigh, aboveTop, inside-tested, beside-none, beside-some}

@@ -1,7 +1,7 @@
 -- `optimum::limits::high` meets its contract: none that overlaps i is less than j. Assumes nothing.
 use mathlib.Core.Path.{_≡_, sym, _∙_}
 use Prim.Native.Nat.{_≤_, _<_, _+_, _-_}
-use Rattle.labeling.specs.Comparisons.{overlapsAbove}
+use Rattle.recurrence.specs.Comparisons.{overlapsAbove}
 use Rattle.orders.specs.Arrays.{heightsOf}
 use Rattle.optimum.specs.Limits.{AtLeast, high-start, high-ends, high-found, high-next, high-none}
 use native.Mathlib.Omega.{arith}

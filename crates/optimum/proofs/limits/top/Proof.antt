@@ -1,7 +1,7 @@
 -- `optimum::limits::top` meets its contract: none that reaches over i is more than j. Assumes nothing.
 use mathlib.Core.Path.{_≡_, sym, _∙_}
 use Prim.Native.Nat.{_<_, _+_}
-use Rattle.labeling.specs.Recurrence.{reachesOver}
+use Rattle.recurrence.specs.Recurrence.{reachesOver}
 use Rattle.orders.specs.Arrays.{heightsOf}
 use Rattle.orders.specs.Layout.{fieldCells}
 use Rattle.optimum.specs.Limits.{AtMost, top-start, top-ends, top-found, top-next, top-none}

@@ -4,7 +4,7 @@ use borrow.Author.Needs.{needs}
 use mathlib.Core.Path.{_≡_, _∙_}
 use Prim.Native.Nat.{_≤_, _+_, _-_}
 use native.Mathlib.Omega.{arith}
-use Rattle.labeling.specs.Recurrence.{Point}
+use Rattle.recurrence.specs.Recurrence.{Point}
 use Rattle.orders.specs.Arrays.{heightsOf}
 use Rattle.optimum.specs.SameHeights.{SameHeights, high-same, top-same}
 use Rattle.optimum.specs.Limits.{InOrder, LimitedTo, limited-none, limited-more, limited, kept-same, kept-order}

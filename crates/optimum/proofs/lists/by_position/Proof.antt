@@ -4,7 +4,7 @@ use mathlib.Core.Path.{_≡_, _∙_, ap}
 use Prim.Native.Nat.{_≤_, _<_, _-_, _+_}
 use lib.ListN.{length, length-set}
 use native.Mathlib.Omega.{arith}
-use Rattle.labeling.specs.Recurrence.{Point}
+use Rattle.recurrence.specs.Recurrence.{Point}
 use Rattle.orders.specs.Arrays.{heightsOf, positionAt}
 use Rattle.optimum.specs.ByPosition.{CopiedTo, copied-none, copied-next}
 use Rattle.optimum.proofs.lists.by_position.Statement.{statement}

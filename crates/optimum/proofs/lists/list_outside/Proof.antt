@@ -9,7 +9,7 @@ use Prim.Native.Nat.{ℕ, _≤_, _<_, _-_, _+_}
 use lib.ListN.{length, length-set}
 use native.Mathlib.Omega.{arith}
 use Rattle.labeling.specs.Points.{Choice}
-use Rattle.labeling.specs.Recurrence.{Point}
+use Rattle.recurrence.specs.Recurrence.{Point}
 use Rattle.orders.specs.Arrays.{heightsOf, positionAt}
 use Rattle.optimum.specs.Split.{flagged, outsideDown, outsidePositions, Listed}
 use Rattle.optimum.specs.Outside.{down-inside, down-outside}

@@ -1,6 +1,6 @@
 -- `optimum::values::joined` meets its contract, by cases. Assumes nothing.
 use native.Mathlib.Omega.{arith}
-use Rattle.labeling.specs.Joins.{joins-low, joins-high, joins-both}
+use Rattle.recurrence.specs.Joins.{joins-low, joins-high, joins-both}
 use borrow.Author.Needs.{needs}
 use Rattle.optimum.proofs.values.joined.Statement.{statement}
 use Rattle.optimum.proofs.values.joined.Tie as tie

@@ -5,13 +5,13 @@ use mathlib.Core.Bool.{Bool, false}
 use mathlib.Core.Logic.{_↔_}
 use Prim.Native.Nat.{ℕ, suc, _≤_, _<_}
 use native.Mathlib.Omega.{arith}
 use Rattle.labeling.specs.Decide.{not-both, same, less}
-use Rattle.labeling.specs.Recurrence.{Heights, Point, Sorted, Free, total, value, recovered}
-use Rattle.labeling.specs.Slabs.{Matches, overlap-sym, upper-misses}
-use Rattle.labeling.specs.NoBetter.{no-better}
-use Rattle.labeling.specs.Recovered.{Open, Follows, weighs}
-use Rattle.labeling.specs.Reached.{Known, is-q, is-right, NoConflicts, clean}
-use Rattle.labeling.specs.Totals.{open-total}
+use Rattle.recurrence.specs.Recurrence.{Heights, Point, Sorted, Free, total, value, recovered}
+use Rattle.recurrence.specs.Slabs.{Matches, overlap-sym, upper-misses}
+use Rattle.recurrence.specs.NoBetter.{no-better}
+use Rattle.recurrence.specs.Recovered.{Open, Follows, weighs}
+use Rattle.recurrence.specs.Reached.{Known, is-q, is-right, NoConflicts, clean}
+use Rattle.recurrence.specs.Totals.{open-total}
 
 -- 0 if there is no choice without conflicts, otherwise one more than the greatest weight of one.
 unfoldable pub optimum : Heights → ℕ

@@ -7,13 +7,13 @@ use Prim.Native.Nat.{ℕ, zero, suc, _+_, _≤_, _<_}
 use lib.Dec.{ltb, leb, eqb}
 use borrow.Author.Tests.{lt-ltb, le-ltb, eq-eqb, ne-eqb}
 use native.Mathlib.Omega.{arith}
 use Rattle.labeling.specs.Decide.{decide, same, Decides, dec-lt, dec-le, dec-and, dec-not}
 use Rattle.labeling.specs.Decide.{dec-true, less, dec-map, dec-unique, dec-if-le, dec-if-pos}
-use Rattle.labeling.specs.Recurrence.{Heights, Point, Sorted, Overlap, overlaps, reachesOver}
-use Rattle.labeling.specs.Recurrence.{greatest, reachesAbove, reach, mayBeInside}
-use Rattle.labeling.specs.RecurrenceTests.{greatest-le, greatest-is, greatest-most, Between, MayBeInside}
-use Rattle.labeling.specs.RecurrenceTests.{dec-may-be-inside, dec-overlaps, Reaches, dec-reaches, dec-above}
-use Rattle.labeling.specs.Slabs.{reaches-overlaps, reaches-right, overlap-right-reaches}
+use Rattle.recurrence.specs.Recurrence.{Heights, Point, Sorted, Overlap, overlaps, reachesOver}
+use Rattle.recurrence.specs.Recurrence.{greatest, reachesAbove, reach, mayBeInside}
+use Rattle.recurrence.specs.RecurrenceTests.{greatest-le, greatest-is, greatest-most, Between, MayBeInside}
+use Rattle.recurrence.specs.RecurrenceTests.{dec-may-be-inside, dec-overlaps, Reaches, dec-reaches, dec-above}
+use Rattle.recurrence.specs.Slabs.{reaches-overlaps, reaches-right, overlap-right-reaches}
 
 -- THE LEAST
 

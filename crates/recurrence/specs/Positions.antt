@@ -6,19 +6,19 @@ use mathlib.Core.Logic.{_↔_}
 use Prim.Native.Nat.{ℕ, zero, suc, _≤_, _<_}
 use lib.Dec.{eqb}
 use native.Mathlib.Omega.{arith}
 use Rattle.labeling.specs.Points.{Points, Choice}
 use Rattle.labeling.specs.Marks.{LabelOnMap, Valid}
 use Rattle.labeling.specs.Conflicts
 use Rattle.labeling.specs.Conflicts.{Conflict}
 use Rattle.labeling.specs.Decide.{not-both, decide, same, dec-eq}
 use Rattle.labeling.specs.Pixels.{valid-iff-free}
 use Rattle.labeling.specs.Best.{weightBelow, weight, Best, best}
 use Rattle.labeling.specs.Greatest.{best-reached, best-is, best-unique}
-use Rattle.labeling.specs.Recurrence
-use Rattle.labeling.specs.Recurrence.{Heights, Point, Sorted, total, greatest}
-use Rattle.labeling.specs.RecurrenceTests.{greatest-le, greatest-is, greatest-most}
-use Rattle.labeling.specs.Sums.{sum, sum-same, Lists, sum-listed}
-use Rattle.labeling.specs.Optimum.{optimum, chosen, upper, exact, sound}
+use Rattle.recurrence.specs.Recurrence
+use Rattle.recurrence.specs.Recurrence.{Heights, Point, Sorted, total, greatest}
+use Rattle.recurrence.specs.RecurrenceTests.{greatest-le, greatest-is, greatest-most}
+use Rattle.recurrence.specs.Sums.{sum, sum-same, Lists, sum-listed}
+use Rattle.recurrence.specs.Optimum.{optimum, chosen, upper, exact, sound}
 
 -- H is P in height order: its point i is position `position i` of P, with the weights v and the permissions f of the positions.
 pub record Arranged (P : Points) (v : ℕ → ℕ) (f : ℕ → Bool) (H : Heights) (position : ℕ → ℕ) : Type 0 where

@@ -36,7 +36,7 @@ pub record Sorted (H : Heights) : Type 0 where
   pub atRank-rank : (i : ℕ) → Point H i → H .atRank (H .rank i) ≡ i
   pub rank-below : (i : ℕ) → Point H i → H .rank i < H .n
 
--- CONFLICTS (Conflicts.antt's, for points in height order)
+-- CONFLICTS (those of labeling's Conflicts.antt, for points in height order)
 
 -- The labels of i and j share a pixel.
 pub record Overlap (H : Heights) (i j : ℕ) : Type 0 where

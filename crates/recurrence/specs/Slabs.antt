@@ -4,9 +4,9 @@ use mathlib.Core.Path.{_≡_, sym, _∙_, ap}
 use mathlib.Core.Bool.{Bool, true, false}
 use Prim.Native.Nat.{ℕ, suc, _+_, _≤_, _<_}
 use native.Mathlib.Omega.{arith}
 use Rattle.labeling.specs.Decide.{same, less}
-use Rattle.labeling.specs.Recurrence.{Heights, Point, Sorted, Overlap, Hits, reach}
-use Rattle.labeling.specs.RecurrenceTests.{Between, Reaches, Reached, newer, older, nobody, reach-is}
+use Rattle.recurrence.specs.Recurrence.{Heights, Point, Sorted, Overlap, Hits, reach}
+use Rattle.recurrence.specs.RecurrenceTests.{Between, Reaches, Reached, newer, older, nobody, reach-is}
 
 -- An overlap is mutual.
 pub overlap-sym : {H : Heights} {i j : ℕ} → Overlap H i j → Overlap H j i

@@ -4,13 +4,13 @@ use mathlib.Core.Path.{_≡_, ap}
 use mathlib.Core.Bool.{Bool, true, false}
 use Prim.Native.Nat.{ℕ, zero, suc, _+_, _≤_, _<_}
 use native.Mathlib.Omega.{arith}
 use Rattle.labeling.specs.Decide.{not-both, decide, same, less, dec-false}
-use Rattle.labeling.specs.Recurrence.{Heights, Point, Sorted, Free, between, reach, value, openWeight}
-use Rattle.labeling.specs.RecurrenceTests.{Between, dec-between, Reaches, reach-is, reach-newer, reach-older, MayBeInside}
-use Rattle.labeling.specs.RecurrenceTests.{dec-may-be-inside, dec-rows-differ, CanOut, CanIn, value-zero, value-skip}
-use Rattle.labeling.specs.RecurrenceTests.{value-step, out-of, in-of, open-zero, open-skip, open-out, open-in}
-use Rattle.labeling.specs.Slabs.{Matches, two-overlap, reaches-lower, ends-below}
-use Rattle.labeling.specs.Slabs.{match-same, match-low, match-high, reach-in, reach-reaches}
+use Rattle.recurrence.specs.Recurrence.{Heights, Point, Sorted, Free, between, reach, value, openWeight}
+use Rattle.recurrence.specs.RecurrenceTests.{Between, dec-between, Reaches, reach-is, reach-newer, reach-older, MayBeInside}
+use Rattle.recurrence.specs.RecurrenceTests.{dec-may-be-inside, dec-rows-differ, CanOut, CanIn, value-zero, value-skip}
+use Rattle.recurrence.specs.RecurrenceTests.{value-step, out-of, in-of, open-zero, open-skip, open-out, open-in}
+use Rattle.recurrence.specs.Slabs.{Matches, two-overlap, reaches-lower, ends-below}
+use Rattle.recurrence.specs.Slabs.{match-same, match-low, match-high, reach-in, reach-reaches}
 
 -- An outside point between a and b splits the weight of the open points.
 pub open-split : (H : Heights) (S : ℕ → Bool) (t a b p : ℕ) → S p ≡ false → Between a p b

@@ -6,15 +6,15 @@ use Prim.Native.Nat.{ℕ, zero, suc, _≤_, _<_}
 use lib.Dec.{ltb, leb}
 use borrow.Author.Tests.{ltb-true, ltb-false, lt-ltb, le-ltb, le-leb, lt-leb, eq-eqb, ne-eqb}
 use native.Mathlib.Omega.{arith}
 use Rattle.labeling.specs.Decide.{decide, same, or-left, or-true, or-false, and-false, less}
-use Rattle.labeling.specs.Recurrence.{Heights, Point, Sorted, between, reach, value}
-use Rattle.labeling.specs.Recurrence.{outValue, inValue, takesIn, recovered, openWeight}
-use Rattle.labeling.specs.RecurrenceTests.{dec-between, CanOut, CanIn, value-zero, value-skip, value-step}
-use Rattle.labeling.specs.RecurrenceTests.{out-of, out-is, in-of, in-is, recovered-skip, recovered-in}
-use Rattle.labeling.specs.RecurrenceTests.{recovered-out, open-zero, open-skip, open-out, open-in}
-use Rattle.labeling.specs.Slabs.{rank-is}
-use Rattle.labeling.specs.Totals.{ltb-next}
-use Rattle.labeling.specs.NoBetter.{open-split}
+use Rattle.recurrence.specs.Recurrence.{Heights, Point, Sorted, between, reach, value}
+use Rattle.recurrence.specs.Recurrence.{outValue, inValue, takesIn, recovered, openWeight}
+use Rattle.recurrence.specs.RecurrenceTests.{dec-between, CanOut, CanIn, value-zero, value-skip, value-step}
+use Rattle.recurrence.specs.RecurrenceTests.{out-of, out-is, in-of, in-is, recovered-skip, recovered-in}
+use Rattle.recurrence.specs.RecurrenceTests.{recovered-out, open-zero, open-skip, open-out, open-in}
+use Rattle.recurrence.specs.Slabs.{rank-is}
+use Rattle.recurrence.specs.Totals.{ltb-next}
+use Rattle.recurrence.specs.NoBetter.{open-split}
 
 -- j is open: strictly between a and b, and of rank less than t.
 pub record Open (H : Heights) (t a b j : ℕ) : Type 0 where

@@ -2,9 +2,9 @@
 use mathlib.Core.Path.{_≡_, refl, sym, _∙_}
 use Prim.Native.Nat.{ℕ, zero, suc, _+_, _-_, _≤_, _<_, max}
 use native.Mathlib.Omega.{arith}
-use Rattle.labeling.specs.Recurrence.{plus, join}
+use Rattle.recurrence.specs.Recurrence.{plus, join}
 use Rattle.labeling.specs.Decide.{less}
-use Rattle.labeling.specs.RecurrenceTests.{plus-of, join-of}
+use Rattle.recurrence.specs.RecurrenceTests.{plus-of, join-of}
 
 -- ONE MORE POINT
 

@@ -5,11 +5,11 @@ use mathlib.Core.Bool.{Bool, true, false, cond, not, _&&_, _||_}
 use Prim.Native.Nat.{ℕ, zero, suc, _+_, _≤_, _<_, max}
 use lib.Dec.{ltb, eqb}
 use native.Mathlib.Omega.{arith}
 use Rattle.labeling.specs.Decide.{not-both, decide, same, Decides, dec-lt, dec-le, dec-eq, dec-true, dec-and}
 use Rattle.labeling.specs.Decide.{dec-not, and-left, and-right, and-both, dec-false, dec-map, dec-if-le, dec-if-pos}
-use Rattle.labeling.specs.Recurrence.{Heights, Point, Overlap, between, overlaps, reachesOver, greatest}
-use Rattle.labeling.specs.Recurrence.{everyPoint, reachesAbove, reach, bars, mayBeInside, rowsDiffer}
-use Rattle.labeling.specs.Recurrence.{plus, join, value, outValue, inValue, takesIn, recovered, openWeight}
+use Rattle.recurrence.specs.Recurrence.{Heights, Point, Overlap, between, overlaps, reachesOver, greatest}
+use Rattle.recurrence.specs.Recurrence.{everyPoint, reachesAbove, reach, bars, mayBeInside, rowsDiffer}
+use Rattle.recurrence.specs.Recurrence.{plus, join, value, outValue, inValue, takesIn, recovered, openWeight}
 
 -- TESTS OF SEVERAL POINTS
 

@@ -7,15 +7,15 @@ use Prim.Native.Nat.{ℕ, zero, suc, _≤_, _<_}
 use lib.Dec.{ltb}
 use borrow.Author.Tests.{lt-ltb, le-ltb}
 use native.Mathlib.Omega.{arith}
 use Rattle.labeling.specs.Decide.{decide, same, not-both, Decides, dec-lt, dec-and, dec-not, less, dec-false, dec-map}
-use Rattle.labeling.specs.Recurrence.{Heights, Point, Sorted, Overlap, between, everyPoint, reachesOver}
-use Rattle.labeling.specs.Recurrence.{reachesAbove, reach, mayBeInside, rowsDiffer, join, value, outValue, inValue}
-use Rattle.labeling.specs.RecurrenceTests.{dec-every, Between, dec-between, Reaches, dec-reaches, Reached}
-use Rattle.labeling.specs.RecurrenceTests.{newer, older, nobody, reach-is, MayBeInside, dec-may-be-inside}
-use Rattle.labeling.specs.RecurrenceTests.{dec-rows-differ, value-zero, value-skip, value-step, greatest-same}
-use Rattle.labeling.specs.Joins.{plus-rises, plus-more, join-none, join-last, join-rises, join-max-low}
-use Rattle.labeling.specs.Joins.{join-max-high, join-plus-low, join-plus-high, join-assoc}
-use Rattle.labeling.specs.Slabs.{rank-is, right-of, overlap-reaches, reaches-overlaps}
+use Rattle.recurrence.specs.Recurrence.{Heights, Point, Sorted, Overlap, between, everyPoint, reachesOver}
+use Rattle.recurrence.specs.Recurrence.{reachesAbove, reach, mayBeInside, rowsDiffer, join, value, outValue, inValue}
+use Rattle.recurrence.specs.RecurrenceTests.{dec-every, Between, dec-between, Reaches, dec-reaches, Reached}
+use Rattle.recurrence.specs.RecurrenceTests.{newer, older, nobody, reach-is, MayBeInside, dec-may-be-inside}
+use Rattle.recurrence.specs.RecurrenceTests.{dec-rows-differ, value-zero, value-skip, value-step, greatest-same}
+use Rattle.recurrence.specs.Joins.{plus-rises, plus-more, join-none, join-last, join-rises, join-max-low}
+use Rattle.recurrence.specs.Joins.{join-max-high, join-plus-low, join-plus-high, join-assoc}
+use Rattle.recurrence.specs.Slabs.{rank-is, right-of, overlap-reaches, reaches-overlaps}
 
 -- The label of p reaches over no point between p and b.
 pub record Unreached (H : Heights) (p b : ℕ) : Type 0 where

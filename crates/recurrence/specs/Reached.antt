@@ -4,14 +4,14 @@ use mathlib.Core.Path.{_≡_, refl, sym, _∙_, ap}
 use mathlib.Core.Bool.{Bool, true, false}
 use Prim.Native.Nat.{ℕ, zero, suc, _+_, _≤_, _<_}
 use native.Mathlib.Omega.{arith}
 use Rattle.labeling.specs.Decide.{not-both, decide, same, less}
-use Rattle.labeling.specs.Recurrence.{Heights, Point, Sorted, Overlap, Hits, between, reach, value, takesIn}
-use Rattle.labeling.specs.RecurrenceTests.{Between, dec-between, Reaches, Reached, newer, older, nobody, reach-is, reach-newer}
-use Rattle.labeling.specs.RecurrenceTests.{reach-older, MayBeInside, dec-may-be-inside, dec-rows-differ, value-skip}
-use Rattle.labeling.specs.Slabs.{overlap-sym, rank-is, right-of, right-misses, ends-below, overlap-reaches}
-use Rattle.labeling.specs.Slabs.{two-overlap, Matches, inner, match-same, match-low, match-high, reach-reaches}
-use Rattle.labeling.specs.Recovered.{Open, Follows, follow-skip, follow-in, taken-in}
-use Rattle.labeling.specs.Recovered.{follow-low, follow-high, taken-out, takes-in, takes-out}
+use Rattle.recurrence.specs.Recurrence.{Heights, Point, Sorted, Overlap, Hits, between, reach, value, takesIn}
+use Rattle.recurrence.specs.RecurrenceTests.{Between, dec-between, Reaches, Reached, newer, older, nobody, reach-is, reach-newer}
+use Rattle.recurrence.specs.RecurrenceTests.{reach-older, MayBeInside, dec-may-be-inside, dec-rows-differ, value-skip}
+use Rattle.recurrence.specs.Slabs.{overlap-sym, rank-is, right-of, right-misses, ends-below, overlap-reaches}
+use Rattle.recurrence.specs.Slabs.{two-overlap, Matches, inner, match-same, match-low, match-high, reach-reaches}
+use Rattle.recurrence.specs.Recovered.{Open, Follows, follow-skip, follow-in, taken-in}
+use Rattle.recurrence.specs.Recovered.{follow-low, follow-high, taken-out, takes-in, takes-out}
 
 -- i is known to be inside: it is q, or strictly between a and b and of rank t or more.
 pub data Known (H : Heights) (t a b q i : ℕ) : Type 0 where

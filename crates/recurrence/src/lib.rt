@@ -1,0 +1,1 @@
+// Definitions and theorems only, in specs/: the recurrence for points in height order, and that it finds the best.
