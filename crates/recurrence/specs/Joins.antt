@@ -33,10 +33,6 @@ unfolding join plus
 join-none zero = refl
 join-none (suc x) = refl
 
--- The first 1 of two joined values counts once.
-pub join-sum : (x y : ℕ) → 1 ≤ x → 1 ≤ y → join x y ≡ x - 1 + y
-join-sum x y l m = omega (arith, join-of x y l m)
-
 -- 1, the value without open points, joins with nothing of its own.
 pub join-first : (y : ℕ) → join 1 y ≡ y
 unfolding join plus
@@ -44,7 +40,7 @@ join-first zero = refl
 join-first (suc y) = omega arith
 
 pub join-last : (x : ℕ) → 1 ≤ x → join x 1 ≡ x
-join-last x l = omega (arith, join-sum x 1 l (omega arith))
+join-last x l = omega (arith, join-of x 1 l (omega arith))
 
 -- Greater values join to no less,
 pub join-rises : (x y x′ y′ : ℕ) → x ≤ x′ → y ≤ y′ → join x y ≤ join x′ y′
@@ -52,12 +48,12 @@ unfolding join
 join-rises zero y x′ y′ l m = omega arith
 join-rises (suc x) zero x′ y′ l m = omega (arith, join-none (suc x))
 join-rises (suc x) (suc y) x′ y′ l m =
-    omega (arith, join-sum (suc x) (suc y) (omega arith) (omega arith), join-sum x′ y′ (omega arith) (omega arith))
+    omega (arith, join-of (suc x) (suc y) (omega arith) (omega arith), join-of x′ y′ (omega arith) (omega arith))
 
 -- and a greater one to more, if there is something to join with.
 pub join-less : (x y z : ℕ) → 1 ≤ x → y < z → join x y < join x z
-join-less x zero z l m = omega (arith, join-none x, join-sum x z l (omega arith))
-join-less x (suc y) z l m = omega (arith, join-sum x (suc y) l (omega arith), join-sum x z l (omega arith))
+join-less x zero z l m = omega (arith, join-none x, join-of x z l (omega arith))
+join-less x (suc y) z l m = omega (arith, join-of x (suc y) l (omega arith), join-of x z l (omega arith))
 
 -- The greater of two values, in either part.
 pub join-max-high : (x y z : ℕ) → join x (max y z) ≡ max (join x y) (join x z)
@@ -76,45 +72,28 @@ unfolding plus join
 join-plus-high w zero y = refl
 join-plus-high w (suc x) zero = rw (join-none (suc x)) (join-none (suc x))
 join-plus-high w (suc x) (suc y) =
-    omega (
-      arith,
-      join-sum (suc x) (w + suc y) (omega arith) (omega arith),
-      join-sum (suc x) (suc y) (omega arith) (omega arith),
-      plus-of w (join (suc x) (suc y)) (omega (arith, join-sum (suc x) (suc y) (omega arith) (omega arith))),
-    )
+    let e = join-of (suc x) (suc y) (omega arith) (omega arith) in
+    omega (arith, join-of (suc x) (w + suc y) (omega arith) (omega arith), plus-of w (join (suc x) (suc y)) (omega arith))
 
 pub join-plus-low : (w x y : ℕ) → join (plus w x) y ≡ plus w (join x y)
 unfolding plus join
 join-plus-low w zero y = refl
 join-plus-low w (suc x) zero = rw (join-none (suc x)) (join-none (w + suc x))
 join-plus-low w (suc x) (suc y) =
-    omega (
-      arith,
-      join-sum (w + suc x) (suc y) (omega arith) (omega arith),
-      join-sum (suc x) (suc y) (omega arith) (omega arith),
-      plus-of w (join (suc x) (suc y)) (omega (arith, join-sum (suc x) (suc y) (omega arith) (omega arith))),
-    )
+    let e = join-of (suc x) (suc y) (omega arith) (omega arith) in
+    omega (arith, join-of (w + suc x) (suc y) (omega arith) (omega arith), plus-of w (join (suc x) (suc y)) (omega arith))
 
 -- A point may be counted with either part.
 pub join-plus : (x w y : ℕ) → 1 ≤ x → join x (plus w y) ≡ join (x + w) y
 unfolding plus
 join-plus x w zero l = join-none x ∙ sym (join-none (x + w))
-join-plus x w (suc y) l = omega (arith, join-sum x (w + suc y) l (omega arith), join-sum (x + w) (suc y) (omega arith) (omega arith))
+join-plus x w (suc y) l = omega (arith, join-of x (w + suc y) l (omega arith), join-of (x + w) (suc y) (omega arith) (omega arith))
 
 -- Three parts.
 pub join-assoc : (x y z : ℕ) → join (join x y) z ≡ join x (join y z)
 unfolding join
 join-assoc zero y z = refl
-join-assoc (suc x) zero z = rw (join-none (suc x))
-join-assoc (suc x) (suc y) zero = rw (join-none (suc y), join-none (suc x)) (join-none (join (suc x) (suc y)))
-join-assoc (suc x) (suc y) (suc z) =
-    let l = join-sum (suc x) (suc y) (omega arith) (omega arith) in
-    let h = join-sum (suc y) (suc z) (omega arith) (omega arith) in
-    omega (
-      arith,
-      join-sum (join (suc x) (suc y)) (suc z) (omega arith) (omega arith),
-      join-sum (suc x) (join (suc y) (suc z)) (omega arith) (omega arith),
-    )
+join-assoc (suc x) y z = join-plus-low x y z
 
 -- Three parts, as a program adds them.
 pub joins-low : (x y z : ℕ) → y ≡ 0 → 0 ≡ join x (join y z)
@@ -126,5 +105,5 @@ joins-high x y z e = rw (e, join-none y) (sym (join-none x))
 
 pub joins-both : (x y z : ℕ) → 1 ≤ x → (y ≡ 0 → ⊥) → (z ≡ 0 → ⊥) → x + (y - 1) + (z - 1) ≡ join x (join y z)
 joins-both x y z l m n =
-    let e : join y z ≡ y - 1 + z = join-sum y z (omega arith) (omega arith) in
-    omega (arith, join-sum x (join y z) l (omega arith))
+    let e = join-of y z (omega arith) (omega arith) in
+    omega (arith, join-of x (join y z) l (omega arith))
