@@ -84,7 +84,7 @@ module _ (s : List ℕ) (rank : ℕ → ℕ) (best : ℕ) (l : List ℕ) (x : Cl
       → Valid sum shortfall ≡ verdictAt s rank best l
   verdict-valid e c s = ap₂ Valid c (s ∙ ap (λ n. best - n) c) ∙ sym (by-clash ∙ ap (λ y. verdictBy y (listSum rank l) best) e)
 
--- LOADING, from the promise of make and make_ranked
+-- LOADING, from the promise of make_with
 
 -- the largest plate has room, so 21 never comes
 making-load : (s : List ℕ) (l : Option (List ℕ)) (cells : ℕ) → makingNo s l plateRoom cells ≡ loadNo s l cells

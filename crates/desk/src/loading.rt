@@ -8,6 +8,7 @@ use format::MOST_POINTS;
 use format::PLATE_ROOM;
 use format::SHEET_ROOM;
 use plate_maker::MakeAnswer;
+use plate_maker::make_with;
 use rank_list::rank_of;
 ghost use mathlib.Core.Path.{_≡_};
 ghost use Prim.Native.Nat.{_≤_};
@@ -15,7 +16,6 @@ ghost use lib.ListN.{length};
 ghost use Rattle.format.specs.Padded.{padded};
 ghost use Rattle.format.specs.Sizes.{mostPoints, sheetRoom};
 ghost use Rattle.format.specs.RankList.{rankIn, lent};
-ghost use Rattle.plate_maker.specs.Making.{Making};
 ghost use Rattle.desk.specs.Desk.{noSheet, noRanks, nothingHeld, ranksBelow, heldOf, withHeld, Loading};
 ghost use Rattle.desk.specs.Blank.{blankPlate};
 
@@ -112,23 +112,6 @@ fn refused_load(desk: Desk, no: u8) -> LoadResult
     LoadResult { desk, answer }
 }
 
-// Makes the best plate of the sheet, by the rank list if one is lent.
-fn make_plate(
-    sheet: &[u8],
-    ranked: bool,
-    ranks: &[u8],
-    plate: &mut [u8],
-    workspace: &mut [u16],
-) -> MakeAnswer
-    ensures { λ r. ⌜ Making (now (sheet .entry)) (lent ranked (now (ranks .entry))) (now (plate .entry)) (now (workspace .entry))
-        r (now (plate .exit)) (now (workspace .exit)) ⌝ }
-{
-    if ranked {
-        return plate_maker::make_ranked(sheet, ranks, plate, workspace);
-    }
-    plate_maker::make(sheet, plate, workspace)
-}
-
 // Loads a sheet, with the ranks of the list if one is lent: its best sum is that of the inside positions of its best plate.
 pub(crate) fn load_with(
     desk: Desk,
@@ -141,7 +124,7 @@ pub(crate) fn load_with(
         (now (workspace .exit)) ⌝ }
 {
     let mut plate = blank_plate();
-    match make_plate(sheet, ranked, ranks, &mut plate, workspace) {
+    match make_with(sheet, ranked, ranks, &mut plate, workspace) {
         MakeAnswer::Refused(no) => refused_load(desk, no),
         MakeAnswer::Made(_) => {
             let held = padded_ranks(ranked, ranks, format::point_count(sheet));

@@ -1,4 +1,4 @@
--- WHAT IS PROMISED of make and make_ranked, and demand 2 above it.
+-- WHAT IS PROMISED of make, make_ranked and make_with, and demand 2 above it.
 pub mod Making
 pub mod DemandTwo
 -- Laws that read the promise, for all who call them; and that a list of ones answers like none.

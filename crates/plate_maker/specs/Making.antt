@@ -27,8 +27,8 @@ makeOutcome (Refused k) = record { refused = true; no = k; written = 0 }
 abbrev pub makeOutcomeOf : List ℕ → Option (List ℕ) → ℕ → MakeOutcome
 makeOutcomeOf s r k = record { refused = not (eqb k 0); no = k; written = cond (eqb k 0) (length (bestPlate s r)) 0 }
 
--- THE PROMISE of make, where r is none, and of make_ranked, where it is the list, on any sheet s, list, output o and workspace w: the
--- answer, and what output and workspace hold afterwards.
+-- THE PROMISE of make, where r is none, of make_ranked, where it is the list, and of make_with, where it is the list if one is lent, on any
+-- sheet s, list, output o and workspace w: the answer, and what output and workspace hold afterwards.
 pub record Making (s : List ℕ) (r : Option (List ℕ)) (o w : List ℕ) (answer : MakeAnswer) (o′ w′ : List ℕ) : Type 0 where
   pub outcome : makeOutcome answer ≡ makeOutcomeOf s r (makingNo s r (length o) (length w))
   pub workspace : w′ ≡ workspaceAfter (makingNo s r (length o) (length w)) w

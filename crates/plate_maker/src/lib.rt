@@ -9,7 +9,7 @@ use writing::write_split;
 
 mod writing;
 
-// What make and make_ranked answer: a plate is made, with its written length; or refused, with the number of the first no.
+// What make, make_ranked and make_with answer: a plate is made, with its written length; or refused, with the number of the first no.
 pub enum MakeAnswer {
     Made(usize),
     Refused(u8),
@@ -24,7 +24,7 @@ fn output_fits(sheet: &[u8], room: usize) -> bool
 }
 
 // Makes the best plate of the sheet, by the rank list if one is lent, at the start of the output.
-fn make_with(
+pub fn make_with(
     sheet: &[u8],
     ranked: bool,
     ranks: &[u8],
