@@ -2,7 +2,7 @@
 ghost use mathlib.Core.Path.{_≡_};
 ghost use Prim.Native.Nat.{_+_, _<_};
 ghost use lib.Dec.{ltb, leb};
-ghost use lib.ListN.{getD};
+ghost use lib.ListN.{getD, length};
 ghost use Rattle.format.specs.Sheet.{twoBytes, sheetLength, mapWidth, mapHeight, labelWidth, labelHeight, pointCount};
 ghost use Rattle.format.specs.Sheet.{callNumber, column as columnOf, row as rowOf, pointsOf};
 ghost use Rattle.labeling.specs.Points.{nextMargin};
@@ -41,13 +41,21 @@ pub fn byte_at(bytes: &[u8], at: usize) -> u8
     0 // past the end
 }
 
+// The two-byte number at a place, low byte first, where both bytes are there.
+fn both_bytes(bytes: &[u8], at: usize) -> u16
+    requires { ⌜ at + 1 < length (now bytes) ⌝ }
+    ensures { λ r. ⌜ r ≡ twoBytes (now (bytes .entry)) at ⌝ }
+{
+    wide(bytes[at]) + 256 * wide(bytes[at + 1])
+}
+
 // The two-byte number at a place of at most 65,535, low byte first. A byte past the end is 0.
 fn two_bytes(bytes: &[u8], at: usize) -> u16
     requires { ⌜ at < 65536 ⌝ }
     ensures { λ r. ⌜ r ≡ twoBytes (now (bytes .entry)) at ⌝ }
 {
     if at + 1 < bytes.len() {
-        return wide(bytes[at]) + 256 * wide(bytes[at + 1]);
+        return both_bytes(bytes, at);
     }
     wide(byte_at(bytes, at))
 }
