@@ -14,10 +14,10 @@ use Rattle.recurrence.specs.Recurrence.{plus, join, value, outValue, inV
 -- TESTS OF SEVERAL POINTS
 
 -- Every point passes exactly if the fact holds of every point.
-pub dec-every : (f : ℕ → Bool) (F : ℕ → Type 0) (m : ℕ) → ((i : ℕ) → Decides (f i) (F i))
+pub dec-every-point : (f : ℕ → Bool) (F : ℕ → Type 0) (m : ℕ) → ((i : ℕ) → Decides (f i) (F i))
     → Decides (everyPoint f m) ((i : ℕ) → 1 ≤ i → i ≤ m → F i)
 unfolding everyPoint
-dec-every f F m d = record { is = every-is m; of = every-of m }
+dec-every-point f F m d = record { is = every-is m; of = every-of m }
   where
     every-is : (m : ℕ) → everyPoint f m ≡ true → (i : ℕ) → 1 ≤ i → i ≤ m → F i
     every-is zero e i l u = absurd (omega arith)
@@ -126,7 +126,7 @@ module _ (H : Heights) where
       (λ g.
       (g .allowed, (g .top, (g .label, λ j l u y. g .others j (record { low = l; high = u }) (y .0) (y .1 .0) (y .1 .1 .0) (y .1 .1 .1)))))
       (dec-and (dec-true _) (dec-and (dec-if-le (H .n) b (dec-le _ _)) (dec-and (dec-if-pos q (dec-not (dec-overlaps p q)))
-      (dec-every (λ j. not (bars H t a b p j)) _ (H .n) (λ j. dec-not (dec-bars t a b p j))))))
+      (dec-every-point (λ j. not (bars H t a b p j)) _ (H .n) (λ j. dec-not (dec-bars t a b p j))))))
 
   -- `rowsDiffer` tests that p isn't in the row of b, if b is a point.
   pub dec-rows-differ : (p b : ℕ) → Decides (rowsDiffer H p b) (b ≤ H .n → H .row p ≡ H .row b → ⊥)

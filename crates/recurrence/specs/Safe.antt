@@ -10,7 +10,7 @@ use native.Mathlib.Omega.{arith}
 use Rattle.labeling.specs.Decide.{decide, same, not-both, Decides, dec-lt, dec-and, dec-not, less, dec-false, dec-map}
 use Rattle.recurrence.specs.Recurrence.{Heights, Point, Sorted, Overlap, between, everyPoint, reachesOver}
 use Rattle.recurrence.specs.Recurrence.{reachesAbove, reach, mayBeInside, rowsDiffer, join, value, outValue, inValue}
-use Rattle.recurrence.specs.RecurrenceTests.{dec-every, Between, dec-between, Reaches, dec-reaches, Reached}
+use Rattle.recurrence.specs.RecurrenceTests.{dec-every-point, Between, dec-between, Reaches, dec-reaches, Reached}
 use Rattle.recurrence.specs.RecurrenceTests.{newer, older, nobody, reach-is, MayBeInside, dec-may-be-inside}
 use Rattle.recurrence.specs.RecurrenceTests.{dec-rows-differ, value-zero, value-skip, value-step, greatest-same}
 use Rattle.recurrence.specs.Joins.{plus-rises, plus-more, join-none, join-last, join-rises, join-max-low}
@@ -31,7 +31,7 @@ dec-unreached H p b u =
     dec-map
     (λ f. record { none = λ y l m r. f y (omega arith) (omega arith) (l, (m, r)) })
     (λ f y l m x. f .none y (x .0) (x .1 .0) (x .1 .1))
-    (dec-every _ _ (H .n) (λ y. dec-not (dec-and (dec-lt p y) (dec-and (dec-lt y b) (dec-reaches H y p)))))
+    (dec-every-point _ _ (H .n) (λ y. dec-not (dec-and (dec-lt p y) (dec-and (dec-lt y b) (dec-reaches H y p)))))
 
 -- THE POINT OF RANK t IS SAFE in the slab (a, b, q): it may be inside, and its label reaches over no point between it and b. (The slab is
 -- one that the recurrence meets: q is 0, or its label reaches over a; and a, if it is a point, is right of the point of rank t.)
