@@ -1,4 +1,6 @@
 // The first clash of a choice.
+#![tactic(auto)]
+
 ghost use Rattle.std.specs.Prelude.{◌≡◌, ◌<◌, eqb};
 ghost use Rattle.labeling.specs.Conflicts.{overlap_b, hits_b};
 ghost use Rattle.format.specs.Sheet.{point_count, row as row_of, points_of};
@@ -10,7 +12,7 @@ ghost use Rattle.clash.specs.ChoiceFlags.{nobody_inside, held, flags_of};
 use format::{column, label_height, label_on_map, label_width, point_count, row, within};
 
 // Whether two labels met, a label met a leader, a label leaves the map, or two leaders met.
-#[derive(Drop)]
+#[derive(Clone, Copy)]
 pub enum ClashKind {
     Labels,
     LabelAndLeader,
@@ -19,7 +21,7 @@ pub enum ClashKind {
 }
 
 // No clash, or the two positions that clash and how. An overhang is a clash of a position with itself.
-#[derive(Drop)]
+#[derive(Clone, Copy)]
 pub enum Clash {
     None,
     Between {

@@ -1,4 +1,6 @@
 // The marking desk.
+#![tactic(auto)]
+
 ghost use Rattle.std.specs.Prelude.{◌≡◌};
 ghost use Rattle.std.proofs.Math.Option.{none, some};
 ghost use Rattle.desk.specs.Desk.{fresh, Loading, Marking};
@@ -16,7 +18,7 @@ mod sums;
 // whether a sheet is loaded; and its best sum of ranks. The spare byte stands where C's alignment would leave one unset. It is 0 in a fresh
 // desk and in what a load puts there, and goes along otherwise.
 #[repr(C)]
-#[derive(Drop)]
+#[derive(Clone, Copy)]
 pub struct Held {
     pub sheet: [u8; SHEET_ROOM],
     pub ranks: [u8; MOST_POINTS],
@@ -27,21 +29,21 @@ pub struct Held {
 
 // A desk: what the last accepted load put there, and the last number given.
 #[repr(C)]
-#[derive(Drop)]
+#[derive(Clone, Copy)]
 pub struct Desk {
     pub held: Held,
     pub last: u16,
 }
 
 // What load and load_ranked answer: the sheet is accepted, or refused with the number of the first no.
-#[derive(Drop)]
+#[derive(Clone, Copy)]
 pub enum LoadAnswer {
     Accepted,
     Refused(u8),
 }
 
 // What the desk says of a marked list: valid, with its sum of ranks and its shortfall; or a clash, with two positions and its kind.
-#[derive(Drop)]
+#[derive(Clone, Copy)]
 pub enum Verdict {
     Valid {
         sum: u16,
@@ -55,21 +57,21 @@ pub enum Verdict {
 }
 
 // What mark answers: the list is marked, with its number and the verdict, or refused with the number of the first no.
-#[derive(Drop)]
+#[derive(Clone, Copy)]
 pub enum MarkAnswer {
     Marked { number: u16, verdict: Verdict },
     Refused(u8),
 }
 
 // The desk after a load, and the answer.
-#[derive(Drop)]
+#[derive(Clone, Copy)]
 pub struct LoadResult {
     pub desk: Desk,
     pub answer: LoadAnswer,
 }
 
 // The desk after a mark, and the answer.
-#[derive(Drop)]
+#[derive(Clone, Copy)]
 pub struct MarkResult {
     pub desk: Desk,
     pub answer: MarkAnswer,

@@ -1,4 +1,6 @@
 // The bytes of sheets and plates.
+#![tactic(auto)]
+
 ghost use Rattle.std.specs.Prelude.{◌≡◌, ◌+◌, ◌<◌, ltb, leb, get_or, length};
 ghost use Rattle.format.specs.Sheet.{two_bytes, sheet_length, map_width, map_height, label_width, label_height, point_count};
 ghost use Rattle.format.specs.Sheet.{call_number, column as column_of, row as row_of, points_of};

@@ -1,5 +1,7 @@
 // What the programs print, as bytes in a lent buffer. Each call answers the length of its text; or the buffer is too short for it, nothing
 // is written, and the answer is 0.
+#![tactic(auto)]
+
 ghost use Rattle.std.specs.Prelude.{◌≡◌, length};
 ghost use Rattle.lines.specs.Rooms.{line_room, listing_room, most_points};
 ghost use Rattle.lines.specs.DeskLines.{refusal_line, loaded_line, load_line, marked_line, mark_line};

@@ -1,5 +1,7 @@
 // The questions of a making before the choice: the sheet's, then 21 and 22, then those of the rank list, if one is lent. How large an
 // output must be is the makings' to know, so 21 comes with its answer, `fits`; of the workspace only the length is asked.
+#![tactic(auto)]
+
 ghost use Rattle.std.specs.Prelude.{◌≡◌};
 ghost use Rattle.format.specs.Sheet.{ask};
 ghost use Rattle.format.specs.MakingQuestions.{workspace_no, room_no, asked_no};

@@ -1,4 +1,6 @@
 // The questions of a mark.
+#![tactic(auto)]
+
 ghost use Rattle.std.specs.Prelude.{◌≡◌, ◌<◌, length};
 ghost use Rattle.mark_questions.specs.MarkQuestions.{entry_no, entries_no, list_no, loaded_list_no, number_left, mark_no};
 

@@ -18,7 +18,7 @@ const NOTES: usize = 26180;
 
 // A slab (a, b, q in specs/): its lower and upper ends, each a boundary or an outside point, and the inside point from below whose
 // label reaches over the lower end, or 0.
-#[derive(Drop)]
+#[derive(Clone, Copy)]
 pub(crate) struct Slab {
     pub lower: usize,
     pub upper: usize,
@@ -27,7 +27,7 @@ pub(crate) struct Slab {
 
 // What is found of a slab: its value, 0 where it has no choice; and its cut, one more than the rank of the point that it is cut at, or 0
 // where all its open points go inside.
-#[derive(Drop)]
+#[derive(Clone, Copy)]
 pub(crate) struct Found {
     pub value: u64,
     pub cut: usize,

@@ -16,7 +16,7 @@ use orders::PointArray;
 
 // Where the loop of an entry stands: the best with a point left outside so far; one more than the weight of the points put inside so far;
 // and whether the loop ends here.
-#[derive(Drop)]
+#[derive(Clone, Copy)]
 struct Run {
     best: Found,
     acc: u64,

@@ -1,4 +1,6 @@
 // The points of a sheet in both orders, with their weights, in the array that the best choice is made from.
+#![tactic(auto)]
+
 ghost use Rattle.std.specs.Prelude.{◌≡◌};
 ghost use Rattle.format.specs.Sheet.{sheet_no, point_count};
 ghost use Rattle.format.specs.RankList.{rank_in, ranks_no, lent};
@@ -22,7 +24,7 @@ mod right_order;
 pub type PointArray = [u16; ARRAY_CELLS];
 
 // The points in both orders, or why there are none: the number of the first no, 0 for none.
-#[derive(Drop)]
+#[derive(Clone, Copy)]
 pub struct OrderedPoints {
     pub no: u8,
     pub heights: [u16; ARRAY_CELLS],

@@ -1,5 +1,7 @@
 // The calls for other languages, over numbers, slices and plain structs. No byte of a struct is left unset: a spare field stands where C's
 // alignment would leave some. It is 0 in what is returned, in a desk after any calls from desk_new on.
+#![tactic(auto)]
+
 ghost use Rattle.std.specs.Prelude.{◌≡◌};
 ghost use Rattle.std.proofs.Math.Option.{none, some};
 ghost use Rattle.format.specs.Sheet.{sheet_no};
@@ -29,7 +31,7 @@ pub extern "C" fn plate_check_sheet(sheet: &[u8]) -> u32
 // What plate_make and plate_make_ranked answer: the number of the first no, 0 where a plate is made; and the written length, 0 on a
 // refusal.
 #[repr(C)]
-#[derive(Drop)]
+#[derive(Clone, Copy)]
 pub struct MakeResult {
     pub number: u32,
     pub spare: u32,
@@ -80,7 +82,7 @@ pub extern "C" fn plate_make_ranked(
 // What plate_read answers: the number of the first no, 0 where the plate is accepted; where the inside list starts in the plate, and how
 // many bytes it has, both 0 on a refusal.
 #[repr(C)]
-#[derive(Drop)]
+#[derive(Clone, Copy)]
 pub struct ReadResult {
     pub number: u32,
     pub spare: u32,
@@ -119,7 +121,7 @@ pub extern "C" fn plate_listing(plate: &[u8], buffer: &mut [u8]) -> usize
 
 // What desk_load and desk_load_ranked answer: the desk after the load, and the number of the first no, 0 where the sheet is loaded.
 #[repr(C)]
-#[derive(Drop)]
+#[derive(Clone, Copy)]
 pub struct DeskLoadResult {
     pub desk: Desk,
     pub number: u32,
@@ -129,7 +131,7 @@ pub struct DeskLoadResult {
 // verdict: 1 for valid, with the sum of ranks and the shortfall; 2 for a clash of two labels, 3 for one of a label and a leader, 4 for a
 // label that leaves the map, 5 for a clash of two leaders, with the two positions. All else is 0.
 #[repr(C)]
-#[derive(Drop)]
+#[derive(Clone, Copy)]
 pub struct DeskMarkResult {
     pub desk: Desk,
     pub number: u32,

@@ -1,4 +1,6 @@
 // The plate maker: the best plate of a sheet, by the rank list that is lent beside it, if any.
+#![tactic(auto)]
+
 ghost use Rattle.std.specs.Prelude.{◌≡◌};
 ghost use Rattle.std.proofs.Math.Option.{none, some};
 ghost use Rattle.format.specs.RankList.{lent};
@@ -11,7 +13,7 @@ use writing::write_split;
 mod writing;
 
 // What make, make_ranked and make_with answer: a plate is made, with its written length; or refused, with the number of the first no.
-#[derive(Drop)]
+#[derive(Clone, Copy)]
 pub enum MakeAnswer {
     Made(usize),
     Refused(u8),

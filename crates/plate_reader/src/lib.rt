@@ -1,4 +1,6 @@
 // A plate read.
+#![tactic(auto)]
+
 ghost use Rattle.std.specs.Prelude.{◌≡◌, ◌+◌, ◌≤◌, ◌<◌, min, length, get_or, take, drop};
 ghost use Rattle.labeling.specs.Points.{before};
 ghost use Rattle.format.specs.Sheet.{points_of, plate_sheet_no, sheet_length};
@@ -15,7 +17,7 @@ use format::{byte_at, column, next_margin, point_count, row, sheet_length};
 use sheet_reader::questions_no;
 
 // What read_plate answers: the plate is accepted, with its inside count, or refused with the number of its first no.
-#[derive(Drop)]
+#[derive(Clone, Copy)]
 pub enum PlateAnswer {
     Accepted(u8),
     Refused(u8),

@@ -1,5 +1,7 @@
 // The rank list that may be lent beside a sheet: a count byte n, then n ranks from 1 to 9. A call that may lend one has two arguments for
 // it: whether it lends one, and the bytes, which don't matter if not.
+#![tactic(auto)]
+
 ghost use Rattle.std.specs.Prelude.{◌≡◌};
 ghost use Rattle.std.proofs.Math.Option.{some};
 ghost use Rattle.format.specs.Sheet.{up_to};

@@ -1,5 +1,7 @@
 // Reads a script from standard input, call by call. A call is a kind byte and its parts, each a two-byte length, low byte first, and that
 // many bytes. `form_of` says which kinds a program knows, and which parts a call of each kind has.
+#![tactic(auto)]
+
 ghost use Rattle.std.specs.Prelude.{◌≡◌, ◌≤◌, length};
 ghost use Rattle.script.specs.Calls.{desk_form, all_form, form_of, one_part, two_parts};
 ghost use Rattle.script.specs.Calls.{CallIn, CallOf, PartIn, PartOf, number_in, part_of};
@@ -10,7 +12,7 @@ use streams::{Input, read_input};
 const PART_ROOM: usize = 65536;
 
 // The kinds that a program knows: those of a desk, or all.
-#[derive(Drop)]
+#[derive(Clone, Copy)]
 pub enum Kinds {
     Desk,
     All,
@@ -19,7 +21,7 @@ pub enum Kinds {
 // What a script has next: a call of a known kind, each of whose two parts fills the first bytes of its buffer, none of them if the call
 // has no such part; what isn't one, because its kind isn't known or a part ends early; the end, where a call would start; or a read that
 // failed, whose line is on standard error.
-#[derive(Drop)]
+#[derive(Clone, Copy)]
 pub enum Call {
     Known { kind: u8, first: u16, second: u16 },
     Bad,
@@ -28,21 +30,21 @@ pub enum Call {
 }
 
 // How a part stands in a call: not at all, or as its length and its bytes.
-#[derive(Drop)]
+#[derive(Clone, Copy)]
 enum Part {
     Absent,
     Sized,
 }
 
 // The form of a call by its kind: how its parts stand in it, or that the kind isn't known.
-#[derive(Drop)]
+#[derive(Clone, Copy)]
 enum Form {
     Parts { first: Part, second: Part },
     Unknown,
 }
 
 // What stands where a call would start.
-#[derive(Drop)]
+#[derive(Clone, Copy)]
 enum Start {
     Kind(u8),
     End,
@@ -50,7 +52,7 @@ enum Start {
 }
 
 // What became of a part: it is whole, with this length; it ends early; or a read failed.
-#[derive(Drop)]
+#[derive(Clone, Copy)]
 enum PartRead {
     Whole(u16),
     Short,

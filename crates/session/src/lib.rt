@@ -1,4 +1,6 @@
 // Runs a script, for the programs desk_session and conformance: its calls, each with a line on standard output.
+#![tactic(auto)]
+
 ghost use Rattle.std.specs.Prelude.{◌≡◌};
 ghost use Rattle.std.proofs.Math.Option.{none, some};
 ghost use Rattle.session.specs.Session.{Runs, Reached, desk_after_call, desk_call, loaded_call, load_call, mark_call};
@@ -13,14 +15,14 @@ use streams::write_output;
 mod plates;
 
 // The desk after a call, and the length of the call's line.
-#[derive(Drop)]
+#[derive(Clone, Copy)]
 struct Ran {
     desk: Desk,
     length: usize,
 }
 
 // The desk after a call, and whether all of the call's line was written. If not, a line on standard error says why.
-#[derive(Drop)]
+#[derive(Clone, Copy)]
 struct Answered {
     desk: Desk,
     written: bool,

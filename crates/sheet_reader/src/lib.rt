@@ -1,4 +1,6 @@
 // Reading sheets: their questions, asked point by point by a reader.
+#![tactic(auto)]
+
 ghost use Rattle.std.specs.Prelude.{◌≡◌, ◌+◌, ◌*◌, ◌<◌, ◌≤◌, length};
 ghost use Rattle.format.specs.Sheet.{two_bytes, point_count, column as column_of, row as row_of};
 ghost use Rattle.format.specs.Sheet.{up_to, both_up_to, on_map, same_call, same_pixel, unlike_earlier, point_no, points_no, questions_no, sheet_no};
@@ -16,7 +18,7 @@ use reader::{SheetPoint, left, moved, next_point, reader_at};
 pub mod reader;
 
 // What check_sheet answers: the sheet is accepted, or refused with the number of its first no.
-#[derive(Drop)]
+#[derive(Clone, Copy)]
 pub enum SheetAnswer {
     Accepted,
     Refused(u8),

@@ -7,7 +7,7 @@ ghost use Rattle.sheet_reader.specs.Reader.{point_at, left_at, place_after, read
 use format::{call_number, column, point_count, row};
 
 // "per point its call number, column and row (two bytes each)"
-#[derive(Drop)]
+#[derive(Clone, Copy)]
 pub struct SheetPoint {
     pub call_number: u16,
     pub column: u16,
@@ -15,7 +15,7 @@ pub struct SheetPoint {
 }
 
 // "a reader that keeps the sheet's bytes and the next place": `next` is the position of the next point.
-#[derive(Drop)]
+#[derive(Clone, Copy)]
 pub struct SheetReader<'a> {
     pub sheet: &'a [u8],
     pub next: u8,

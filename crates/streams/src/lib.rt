@@ -1,19 +1,21 @@
 // Standard input and output for a program: a short or interrupted read or write goes on, and one that fails gets a line on standard error.
 // No contract can speak of what an operating system read or wrote, so these only limit the counts.
+#![tactic(auto)]
+
 ghost use Rattle.std.specs.Prelude.{◌≤◌, length};
 ghost use Rattle.streams.specs.Moves.{ReadInto, WrittenOf};
 
 use libc::{STDERR_FILENO, STDIN_FILENO, STDOUT_FILENO};
 
 // What reading came to: how many bytes were put at the start of the buffer, or a read that failed.
-#[derive(Drop)]
+#[derive(Clone, Copy)]
 pub enum Input {
     Read(usize),
     Failed,
 }
 
 // What one write came to: how many of the text's first bytes it took, or that it failed.
-#[derive(Drop)]
+#[derive(Clone, Copy)]
 enum Output {
     Written(usize),
     Failed,

@@ -1,0 +1,19 @@
+use borrow.Author.Rules.{rules}
+use mathlib.Core.Path.{◌≡◌, sym, ◌∙◌}
+use mathlib.Core.Bool.{false}
+use Prim.Native.Nat.{ℕ, ◌-◌, ◌≤◌, ◌<◌}
+use borrow.Author.Count.{below_more}
+use borrow.Author.Tests.{eq-eqb, ne_eqb}
+use native.Mathlib.Omega.{arith}
+use Rattle.format.specs.Sheet.{column, row, same_pixel}
+use Rattle.sheet_reader.specs.PixelNumber.{PixelNumber, pixel-numbers}
+use Rattle.sheet_reader.proofs.Laws.{not-unlike, unlike}
+use Rattle.sheet_reader.proofs.own_pixel.Given as goal
+
+abbrev pub invariant-loop-earlier : goal.invariant-loop-earlier
+invariant-loop-earlier l =
+    (l.earlier ≤ l.position) × PixelNumber (column l.sheet l.position) (row l.sheet l.position) l.own
+    × ((j : ℕ) → j < l.earlier → same_pixel l.sheet j l.position ≡ false)
+
+abbrev pub decreases-loop-earlier : goal.decreases-loop-earlier
+decreases-loop-earlier l = l.position - l.earlier
