@@ -9,13 +9,13 @@ use native.Mathlib.Numerals.{add-one}
 use Rattle.labeling.specs.Points.{Points, Choice}
 use Rattle.labeling.specs.Marks.{label_on_map_b}
 use Rattle.labeling.specs.Conflicts.{overlap_b, hits_b}
-use Rattle.labeling.specs.Decide.{not-both, same}
+use Rattle.labeling.proofs.Decide.{not-both, same}
 use Rattle.clash.specs.declared.ClashKind.TheVariants.{Labels, LabelAndLeader, Overhang, TwoLeaders}
 use Rattle.clash.specs.declared.Clash.{Clash}
 use Rattle.clash.specs.declared.Clash.TheVariants.{None, Between}
 use Rattle.format.specs.Stretches.{stretches_overlap}
 use Rattle.clash.specs.FirstClash.{is_clash, or_else, clash_if, pair_clash, own_clash, first_of, ordered_clash, later_clash, clash_of}
-use Rattle.clash.specs.ClashPixels.{no-clash, first-none, none_first}
+use Rattle.clash.proofs.ClashPixels.{no-clash, first-none, none_first}
 
 -- TWO LABELS, by their columns and then their rows
 

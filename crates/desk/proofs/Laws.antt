@@ -10,32 +10,35 @@ use borrow.Author.Tests.{eqb-true, le-leb}
 use native.Mathlib.Omega.{arith}
 use native.Mathlib.Numerals.{add-one}
 use Rattle.format.specs.Sizes.{most_points, sheet_room, plate_room}
-use Rattle.format.specs.Bytes.{all_after}
-use Rattle.format.specs.Padded.{padded, drop-zeros}
-use Rattle.labeling.specs.Decide.{decide}
+use Rattle.format.proofs.Bytes.{all_after}
+use Rattle.format.specs.Padded.{padded}
+use Rattle.format.proofs.Padded.{drop-zeros}
+use Rattle.labeling.proofs.Decide.{decide}
 use Rattle.labeling.specs.Best.{weight, best_sum}
 use Rattle.format.specs.Sheet.{point_count, points_of, sheet_no}
 use Rattle.format.specs.RankList.{rank_in}
-use Rattle.format.specs.Accepted.{Accepted as AcceptedSheet, accepted}
+use Rattle.format.specs.Accepted.{Accepted as AcceptedSheet}
+use Rattle.format.proofs.Accepted.{accepted}
 use Rattle.format.specs.Answers.{outcome_of}
 use Rattle.format.specs.Plate.{choice_of, inside_below, best_choice_of, best_plate}
-use Rattle.format.specs.BestPlate.{best-chosen-sums}
-use Rattle.format.specs.InsideList.{inside-ascending}
+use Rattle.format.proofs.BestPlate.{best-chosen-sums}
+use Rattle.format.proofs.InsideList.{inside-ascending}
 use Rattle.clash.specs.declared.ClashKind.{ClashKind}
 use Rattle.clash.specs.declared.Clash.{Clash}
 use Rattle.clash.specs.declared.Clash.TheVariants.{None, Between}
 use Rattle.clash.specs.FirstClash.{first_clash}
 use Rattle.plate_reader.specs.PlateQuestions.{inside_list}
-use Rattle.format.specs.MakingQuestions.{room_no, asked_no, choosing_no, making_no, load_asked_no, load_no, workspace_after, none-load}
+use Rattle.format.specs.MakingQuestions.{room_no, asked_no, choosing_no, making_no, load_asked_no, load_no, workspace_after}
+use Rattle.format.proofs.MakingQuestions.{none-load}
 use Rattle.plate_maker.specs.Making.{make_outcome, Making}
-use Rattle.plate_maker.specs.MakingLaws.{making-workspace, made-output}
+use Rattle.plate_maker.proofs.MakingLaws.{making-workspace, made-output}
 use Rattle.plate_maker.specs.declared.MakeAnswer.{MakeAnswer}
 use Rattle.plate_maker.specs.declared.MakeAnswer.TheVariants.{Made, Refused as RefusedMaking}
 use Rattle.desk.specs.Desk.{sum_of, list_sum, no_sheet, no_ranks, load_outcome, ranks_below, ranks_held, rank_held, held_of, with_held}
 use Rattle.desk.specs.Desk.{loaded_desk, Loading, verdict_by, verdict_at}
 use Rattle.desk.specs.Blank.{blank_plate}
-use Rattle.desk.specs.Sums.{inside-sum, sum_same}
-use Rattle.desk.specs.Loaded.{rank-held, plate-inside}
+use Rattle.desk.proofs.SumsLaws.{inside-sum, sum_same}
+use Rattle.desk.proofs.Loaded.{rank-held, plate-inside}
 use Rattle.desk.specs.declared.Held.{Held}
 use Rattle.desk.specs.declared.Desk.{Desk}
 use Rattle.desk.specs.declared.LoadAnswer.TheVariants.{Accepted, Refused}

@@ -1,7 +1,7 @@
 -- A sequence of calls, and document 01's words about it ("The desk", words of demand 3) with the rank lists of document 02 (e): first the
 -- sequence and the desk that it leaves, by the promises of a load and of a mark; then the words, from the calls alone. What demand 3 claims
 -- in these words is in DemandThree.antt. Assumes nothing.
-use Rattle.std.specs.Prelude.{◌≡◌, Bool, true, false, cond, ◌||◌, ◌↔◌, List, [], ◌∷◌, ◌++◌, ℕ, ◌+◌, ◌<◌, eqb, length, take, drop}
+use Rattle.std.specs.Prelude.{◌≡◌, Bool, false, cond, ◌||◌, List, [], ◌∷◌, ◌++◌, ℕ, ◌+◌, eqb, length, take, drop}
 use Rattle.std.proofs.Math.Option.{Option, none, some}
 use Rattle.labeling.specs.Points.{Choice}
 use Rattle.labeling.specs.Marks.{Valid}
@@ -12,7 +12,6 @@ use Rattle.plate_maker.specs.Making.{make_outcome, Making}
 use Rattle.plate_maker.specs.declared.MakeAnswer.{MakeAnswer}
 use Rattle.format.specs.MakingQuestions.{load_no}
 use Rattle.mark_questions.specs.MarkQuestions.{positions, list_no, mark_no}
-use Rattle.mark_questions.specs.Lists.{none_list, none-mark}
 use Rattle.desk.specs.Desk.{fresh, load_of, mark_of}
 use Rattle.desk.specs.declared.Desk.{Desk}
 
@@ -29,6 +28,7 @@ pub data Calls : Type 0 where
   ◌and_then◌ : Calls → Call → Calls
 
 infixl 20 ◌and_then◌
+
 -- The desk that a call hands back: load_of and mark_of are the one result that the promises of a load and a mark leave (loading-exactly,
 -- marking-exactly, of DeskLaws.antt).
 abbrev pub desk_of : Desk → Call → Desk
@@ -91,14 +91,6 @@ mark_no_after calls l = mark_no (loaded_after calls) (points_in (last_taken call
 -- "A list is marked if all its mark's questions are answered yes."
 abbrev pub MarkedAfter : Calls → List ℕ → Type 0
 MarkedAfter calls l = mark_no_after calls l ≡ 0
-
--- which is: a sheet is loaded, 31 to 33 are answered yes with its n, and the last number is below 9,999
-pub marked-exactly : (calls : Calls) (l : List ℕ)
-    → MarkedAfter calls l ↔ ((loaded_after calls ≡ true) × (list_no (points_in (last_taken calls)) l ≡ 0) × (last_number calls < 9999))
-marked-exactly calls l =
-    let m = none-mark (loaded_after calls) (points_in (last_taken calls)) (last_number calls) l in
-    let n = none_list (points_in (last_taken calls)) l in
-    (λ z. ((m.is z).0.0, n.of (m.is z).0.1, (m.is z).1.0), λ a. m.of ((a.0, n.is a.1), (a.2, tt)))
 
 -- "A list is well-formed for a sheet if 31 to 33 are answered yes with that sheet's n."
 abbrev pub WellFormed : List ℕ → List ℕ → Type 0

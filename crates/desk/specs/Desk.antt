@@ -1,7 +1,6 @@
 -- What a load and a mark answer and leave, on every value of the desk, reachable or not (document 01, "The desk", and document 02 (c) and
 -- (e)): the promises of the calls. Assumes nothing.
-use Rattle.std.specs.Prelude.{◌≡◌, refl, Bool, true, false, cond, not, List, [], ◌∷◌, ◌++◌, ℕ, zero, suc, ◌+◌, ◌-◌, eqb, length, get_or, replicate}
-use Rattle.std.proofs.Common.{sym, true≢false}
+use Rattle.std.specs.Prelude.{◌≡◌, Bool, true, false, cond, not, List, [], ◌∷◌, ◌++◌, ℕ, zero, suc, ◌+◌, ◌-◌, eqb, length, get_or, replicate}
 use Rattle.std.proofs.Math.Option.{Option, none, some}
 use Rattle.format.specs.Sizes.{most_points, sheet_room}
 use Rattle.format.specs.Padded.{padded}
@@ -103,13 +102,6 @@ pub record Loading (d : Desk) (s : List ℕ) (l : Option (List ℕ)) (w : List �
   pub desk : r.desk ≡ loaded_desk r.answer d s l
   pub workspace : w' ≡ workspace_after (load_outcome r.answer).no w
 
--- an outcome fixes the answer, constructor and number
-pub load-outcome-fixes : (a b : LoadAnswer) → load_outcome a ≡ load_outcome b → a ≡ b
-load-outcome-fixes Accepted Accepted e = refl
-load-outcome-fixes Accepted (Refused k) e = absurd (true≢false (λ i. (sym e i).refused))
-load-outcome-fixes (Refused k) Accepted e = absurd (true≢false (λ i. (e i).refused))
-load-outcome-fixes (Refused k) (Refused m) e = λ i. Refused (e i).no
-
 -- The answer where the first no is k.
 abbrev pub load_answer_of : ℕ → LoadAnswer
 load_answer_of k = cond (eqb k 0) Accepted (Refused k)
@@ -203,31 +195,6 @@ marked_desk (RefusedMark k) d = d
 pub record Marking (d : Desk) (l : List ℕ) (r : MarkResult) : Type 0 where
   pub outcome : mark_outcome r.answer ≡ mark_outcome_of d l (first_no d l)
   pub desk : r.desk ≡ marked_desk r.answer d
-
--- an outcome fixes the verdict,
-pub verdict-outcome-fixes : (v u : Verdict) → verdict_outcome v ≡ verdict_outcome u → v ≡ u
-verdict-outcome-fixes (Valid n f) (Valid m g) e =
-    let p : some n ≡ some m = λ i. (e i).sum in
-    let q : some f ≡ some g = λ i. (e i).shortfall in
-    cc
-verdict-outcome-fixes (Valid n f) (ClashVerdict i j k) e = absurd (true≢false (λ t. (e t).valid))
-verdict-outcome-fixes (ClashVerdict i j k) (Valid m g) e = absurd (true≢false (λ t. (sym e t).valid))
-verdict-outcome-fixes (ClashVerdict i j k) (ClashVerdict a b c) e =
-    let p : some i ≡ some a = λ t. (e t).first in
-    let q : some j ≡ some b = λ t. (e t).second in
-    let r : some k ≡ some c = λ t. (e t).kind in
-    cc
-
--- and the answer: constructor, numbers and verdict
-pub mark-outcome-fixes : (a b : MarkAnswer) → mark_outcome a ≡ mark_outcome b → a ≡ b
-mark-outcome-fixes (Marked n v) (Marked m u) e =
-    let p : some n ≡ some m = λ i. (e i).number in
-    let q : some (verdict_outcome v) ≡ some (verdict_outcome u) = λ i. (e i).verdict in
-    let w : v ≡ u = verdict-outcome-fixes v u (cc) in
-    cc
-mark-outcome-fixes (Marked n v) (RefusedMark k) e = absurd (true≢false (λ i. (sym e i).refused))
-mark-outcome-fixes (RefusedMark k) (Marked m u) e = absurd (true≢false (λ i. (e i).refused))
-mark-outcome-fixes (RefusedMark k) (RefusedMark m) e = λ i. RefusedMark (e i).no
 
 -- The answer where the first no is k.
 abbrev pub mark_answer_of : Desk → List ℕ → ℕ → MarkAnswer

@@ -18,12 +18,5 @@ pub mod Stretches
 pub mod Accepted
 pub mod RightRanks
 pub mod SharedRows
-pub mod Start
-pub mod PlateLength
 pub mod PlateBytes
-pub mod BestPlate
 pub mod Unranked
-pub mod InsideList
--- Bookkeeping for proofs: cascades of questions, and choices that agree.
-pub mod Asking
-pub mod PlateAgree

@@ -8,12 +8,14 @@ use borrow.Author.Tests.{le-leb, lt-leb}
 use native.Mathlib.Nat.{le_refl}
 use native.Mathlib.Numerals.{add-one}
 use native.Mathlib.Omega.{arith}
-use Rattle.format.specs.Written.{written_if_room, written_none}
+use Rattle.format.specs.Written.{written_if_room}
+use Rattle.format.proofs.Written.{written_none}
 use Rattle.lines.specs.Rooms.{point_room, points_room}
 use Rattle.lines.specs.Text.{ascii, digit, decimal, spaced}
-use Rattle.lines.specs.Decimal.{decimal_step, decimal-length}
+use Rattle.lines.proofs.Decimal.{decimal_step, decimal-length}
 use Rattle.lines.specs.Listing.{place, point_line, point_lines}
-use Rattle.lines.specs.Writing.{Prints, Put, put-more, put-looser}
+use Rattle.lines.specs.Writing.{Prints, Put}
+use Rattle.lines.proofs.Writing.{put-more, put-looser}
 
 -- a number of 16 bits with a digit more
 pub put-longer : {o o₁ o₂ : List ℕ} {at m r : ℕ} (n : ℕ) → n < 65536 → 10 ≤ n → at + 5 ≤ length o

@@ -5,7 +5,7 @@ use Prim.Native.Nat.{ℕ, ◌+◌, ◌≤◌, ◌<◌, max}
 use lib.ListN.{length, get_or, drop, length-drop}
 use borrow.Author.Tests.{eq-eqb, ne_eqb}
 use native.Mathlib.Omega.{arith}
-use Rattle.format.specs.Bytes.{pair-after}
+use Rattle.format.proofs.Bytes.{pair-after}
 use Rattle.lines.specs.Listing.{margins, used, columns_used, margin_of}
 
 -- COLUMNS USED

@@ -8,7 +8,7 @@ use lib.ListN.{get_or}
 use borrow.Author.Tests.{eq-eqb, ne_eqb}
 use native.Mathlib.Omega.{arith}
 use native.Mathlib.Numerals.{add-one}
-use Rattle.labeling.specs.Decide.{same}
+use Rattle.labeling.proofs.Decide.{same}
 use Rattle.mark_questions.specs.MarkQuestions.{above_before, entry_no, entries_no}
 
 -- an entry with one before it

@@ -1,27 +1,7 @@
 -- Flags by height order, copied to a choice by position one by one. Assumes nothing.
-use Rattle.std.specs.Prelude.{◌≡◌, ℕ, ◌+◌, ◌<◌, ◌≤◌, List, length, slice_index, slice_set}
-use Rattle.std.proofs.Common.{◌∙◌, arith, get_or-set_same, get_or-set_other}
-use Rattle.recurrence.specs.Recurrence.{Point}
-use Rattle.labeling.specs.Decide.{same}
-use Rattle.orders.specs.Arrays.{heights_of, position_at}
-use Rattle.optimum.specs.Split.{Numbered}
+use Rattle.std.specs.Prelude.{◌≡◌, ℕ, ◌≤◌, List, slice_index}
+use Rattle.orders.specs.Arrays.{position_at}
 
 -- The flags of the points 1 to m are copied.
 abbrev pub CopiedTo : (heights flags inside : List ℕ) → ℕ → Type 0
 CopiedTo heights flags inside m = (i : ℕ) → 1 ≤ i → i ≤ m → slice_index inside (position_at heights i) ≡ slice_index flags i
-
-pub copied_none : (heights flags inside : List ℕ) → CopiedTo heights flags inside 0
-copied_none heights flags inside i a b = absurd (omega arith)
-
-pub copied_next : (heights flags inside : List ℕ) (m p : ℕ) → Numbered heights → m < (heights_of heights).n
-    → length inside ≡ 32 → p ≡ position_at heights (m + 1) → CopiedTo heights flags inside m
-    → CopiedTo heights flags (slice_set inside p (slice_index flags (m + 1))) (m + 1)
-copied_next heights flags inside m p N l e q f i a b =
-    let last : Point (heights_of heights) (m + 1) = record { low = omega arith; high = omega arith } in
-    let point : Point (heights_of heights) i = record { low = a; high = omega arith } in
-    same i (m + 1)
-    (λ z.
-    rw (q, z) (get_or-set_same inside (position_at heights (m + 1)) (slice_index flags (m + 1)) 0 (omega (arith, N.below (m + 1) last, N.few))))
-    (λ ne.
-    get_or-set_other inside p (position_at heights i) (slice_index flags (m + 1)) 0 (λ z. ne (N.once i (m + 1) point last (z ∙ q)))
-    ∙ f i a (omega arith))

@@ -1,10 +1,8 @@
 -- What best_choice answers and leaves. Assumes nothing.
 use Rattle.std.specs.Prelude.{◌≡◌, ℕ, Bool, cond, List, length, replicate, ◌==◌}
-use Rattle.std.proofs.Common.{sym, ap, ◌∙◌, eqb-true}
 use Rattle.std.proofs.Math.Option.{Option}
 use Rattle.labeling.specs.Points.{Choice, outside}
 use Rattle.labeling.specs.Best.{best_choice}
-use Rattle.labeling.specs.Decide.{decide}
 use Rattle.format.specs.Sheet.{point_count, points_of}
 use Rattle.format.specs.Plate.{inside_below}
 use Rattle.format.specs.RankList.{rank_in}
@@ -42,12 +40,3 @@ chosen_of s rank k = cond (k == 0) (split_of s (best_choice (points_of s) rank))
 pub record Choosing (s : List ℕ) (l : Option (List ℕ)) (fits : Bool) (w : List ℕ) (r : BestChoice) (w' : List ℕ) : Type 0 where
   pub answer : r ≡ chosen_of s (rank_in l) (choosing_no s l fits (length w))
   pub workspace : w' ≡ workspace_after (choosing_no s l fits (length w)) w
-
--- READING AN ANSWER: its number is that of the first no, and where that is 0, the lists are those of the best choice
-
-module _ (s : List ℕ) (rank : ℕ → ℕ) (k : ℕ) (r : BestChoice) (e : r ≡ chosen_of s rank k) where
-  pub chosen-no : r.no ≡ k
-  chosen-no = decide (k == 0) (λ t. rw (e, t) (sym (eqb-true k 0 t))) (λ t. rw (e, t))
-
-  pub chosen-split : r.no ≡ 0 → r ≡ split_of s (best_choice (points_of s) rank)
-  chosen-split z = e ∙ ap (chosen_of s rank) (sym chosen-no ∙ z)

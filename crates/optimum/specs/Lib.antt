@@ -13,12 +13,6 @@ pub mod SameHeights
 pub mod Places
 pub mod Entries
 pub mod Conflicts
-pub mod Memo
-pub mod Steps
-pub mod Running
-pub mod Recovery
 pub mod ByPosition
 pub mod Split
-pub mod Lists
-pub mod Outside
 pub mod Chosen

@@ -1,11 +1,9 @@
 -- A choice by position, and the outside positions in height order. Assumes nothing.
-use Rattle.std.specs.Prelude.{◌≡◌, ℕ, zero, suc, ◌<◌, ◌≤◌, Bool, cond, List, [], ◌∷◌, ◌++◌, length, ◌==◌, slice_index}
-use Rattle.labeling.specs.Points.{Points, Choice}
+use Rattle.std.specs.Prelude.{◌≡◌, ℕ, zero, suc, ◌<◌, ◌≤◌, cond, List, [], ◌∷◌, ◌++◌, length, ◌==◌, slice_index}
+use Rattle.labeling.specs.Points.{Choice}
 use Rattle.recurrence.specs.Recurrence.{Point}
-use Rattle.recurrence.specs.Positions.{Arranged}
 use Rattle.orders.specs.Arrays.{heights_of, position_at}
 use Rattle.format.specs.Written.{written}
-use Rattle.std.proofs.Common.{arith}
 
 -- The choice that an array by position holds: 1 is inside.
 abbrev pub flagged : List ℕ → Choice
@@ -16,15 +14,6 @@ pub record Numbered (heights : List ℕ) : Type 0 where
   pub few : (heights_of heights).n ≤ 32
   pub below : (i : ℕ) → Point (heights_of heights) i → position_at heights i < (heights_of heights).n
   pub once : (i j : ℕ) → Point (heights_of heights) i → Point (heights_of heights) j → position_at heights i ≡ position_at heights j → i ≡ j
-
--- few points in height order have positions of their own
-pub numbered : {P : Points} {v : ℕ → ℕ} {f : ℕ → Bool} (heights : List ℕ)
-    → P.n ≤ 32 → Arranged P v f (heights_of heights) (position_at heights) → Numbered heights
-numbered heights few A = record {
-  few = omega (arith, A.n, few);
-  below = λ i p. omega (arith, A.n, A.below i p);
-  once = A.once;
-}
 
 -- The outside positions of the points i, i - 1, ..., 1 in height order.
 unfoldable pub outside_down : Choice → (ℕ → ℕ) → ℕ → List ℕ

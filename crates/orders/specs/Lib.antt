@@ -15,5 +15,4 @@ pub mod Orders
 pub mod Numbers
 pub mod GivenCells
 pub mod HeightOrder
-pub mod Fits
 pub mod RightOrder

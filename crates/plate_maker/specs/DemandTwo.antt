@@ -7,12 +7,10 @@ use Rattle.std.proofs.Math.Option.{Option}
 use Rattle.labeling.specs.Points.{Choice}
 use Rattle.labeling.specs.Marks.{Valid}
 use Rattle.format.specs.Sheet.{point_count, points_of}
-use Rattle.format.specs.Plate.{inside_below, plate_of, best_choice_of, best_plate}
-use Rattle.format.specs.Accepted.{none-sheet}
+use Rattle.format.specs.Plate.{inside_below, plate_of}
 use Rattle.plate_reader.specs.PlateQuestions.{plate_no, handed_back}
-use Rattle.plate_reader.specs.DemandTwoReader.{PlateOfChoice, ReadRight, demand-two-reader}
+use Rattle.plate_reader.specs.DemandTwoReader.{ReadRight}
 use Rattle.plate_maker.specs.Making.{Making}
-use Rattle.plate_maker.specs.MakingLaws.{made-accepted, made-preferred, made-start}
 use Rattle.plate_maker.specs.declared.MakeAnswer.TheVariants.{Made}
 
 -- A plate p made from the sheet s: it is the plate of s and a valid choice, it is accepted, and the inside list that the reader hands
@@ -30,20 +28,3 @@ pub record MadeRight (s p : List ℕ) : Type 0 where
 pub record DemandTwo : Type 0 where
   pub reads : (p : List ℕ) → ReadRight p
   pub made : (s : List ℕ) (r : Option (List ℕ)) (o w o' w' : List ℕ) (k : ℕ) → Making s r o w (Made k) o' w' → MadeRight s (take k o')
-
-made-right : (s : List ℕ) (r : Option (List ℕ)) (o w o' w' : List ℕ) (k : ℕ) → Making s r o w (Made k) o' w' → MadeRight s (take k o')
-unfolding best_plate
-made-right s r o w o' w' k m =
-    let v : Valid (points_of s) (best_choice_of s r) = (made-preferred m).best.valid in
-    let x : PlateOfChoice (take k o') = record {
-      sheet = s;
-      choice = best_choice_of s r;
-      accepted = (none-sheet s).of (made-accepted m);
-      valid = v;
-      plate = made-start m;
-    } in
-    let read : ReadRight (take k o') = demand-two-reader (take k o') in
-    record { choice = best_choice_of s r; valid = v; plate = made-start m; accepted = read.accepts.1 x; inside = read.inside x }
-
-pub demand-two : DemandTwo
-demand-two = record { reads = demand-two-reader; made = made-right }

@@ -1,9 +1,5 @@
 -- WHAT IS PROMISED of make, make_ranked and make_with, and demand 2 above it.
 pub mod Making
 pub mod DemandTwo
--- Laws that read the promise, for all who call them; and that a list of ones answers like none.
-pub mod MakingLaws
 -- BOOKKEEPING: a plate written from two lists, and that it is the plate of the choice.
 pub mod Writing
-pub mod Pairs
-pub mod PlateOfLists

@@ -10,18 +10,20 @@ use borrow.Author.Tests.{lt-ltb, le-ltb, eq-eqb, ne_eqb}
 use native.Mathlib.Numerals.{add-one}
 use native.Mathlib.Omega.{arith}
 use Rattle.labeling.specs.Points.{Points, Choice, before, next_margin}
-use Rattle.labeling.specs.Decide.{same}
+use Rattle.labeling.proofs.Decide.{same}
 use Rattle.format.specs.Sheet.{point_count, points_of, plate_sheet_no}
-use Rattle.format.specs.Accepted.{none-plate-sheet}
-use Rattle.format.specs.Bytes.{all_after, pair-after}
+use Rattle.format.proofs.Accepted.{none-plate-sheet}
+use Rattle.format.proofs.Bytes.{all_after, pair-after}
 use Rattle.format.specs.Plate.{choice_of}
 use Rattle.format.specs.Ascending.{below_next, ascending}
-use Rattle.clash.specs.ChoiceFlags.{held, flags_of, flags-hold}
+use Rattle.clash.specs.ChoiceFlags.{held, flags_of}
+use Rattle.clash.proofs.ChoiceFlags.{flags-hold}
 use Rattle.plate_reader.specs.PlateQuestions.{sheet_of, inside_count, inside_start, inside_list, outside_start, outside_count}
 use Rattle.plate_reader.specs.PlateQuestions.{outside_pairs, sections_fit, pairs_right, plate_no, handed_back, handed_back_at}
-use Rattle.plate_reader.specs.OutsideWalk.{outside_point, pair_follows, pairs_after, pairs_follow, follow-same}
-use Rattle.plate_reader.specs.PlateSections.{dec-fit, none-plate, start-accepted}
-use Rattle.plate_reader.specs.PlateWalk.{walk-answers}
+use Rattle.plate_reader.specs.OutsideWalk.{outside_point, pair_follows, pairs_after, pairs_follow}
+use Rattle.plate_reader.proofs.OutsideWalk.{follow-same}
+use Rattle.plate_reader.proofs.PlateSections.{dec-fit, none-plate, start-accepted}
+use Rattle.plate_reader.proofs.PlateWalk.{walk-answers}
 use Rattle.plate_reader.specs.PlateAnswers.{plate_outcome_of}
 
 -- 41

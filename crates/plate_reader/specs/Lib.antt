@@ -5,12 +5,5 @@ pub mod PlateAnswers
 -- THEOREMS: demand 2, the reader's half; what the questions ask, as facts; the numbers where rows are shared.
 pub mod DemandTwoReader
 pub mod PlateSections
-pub mod PlateNumbers
--- Worked cases, each file a table and its theorem: P1 to P10 and those of document 02, single pixels, and sheets and plates that are
--- refused.
-pub mod Cases
-pub mod CasePixels
-pub mod Refusals
 -- Bookkeeping for proofs: the walk by which the code answers 43.
 pub mod OutsideWalk
-pub mod PlateWalk

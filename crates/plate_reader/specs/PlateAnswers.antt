@@ -1,6 +1,5 @@
 -- For each case of read_plate's answer, document 01's number and values. Assumes nothing.
-use Rattle.std.specs.Prelude.{◌≡◌, Bool, true, false, cond, not, List, ℕ, eqb}
-use Rattle.std.proofs.Common.{sym, true≢false}
+use Rattle.std.specs.Prelude.{Bool, true, false, cond, not, List, ℕ, eqb}
 use Rattle.plate_reader.specs.declared.PlateAnswer.{PlateAnswer}
 use Rattle.plate_reader.specs.declared.PlateAnswer.TheVariants.{Accepted, Refused}
 use Rattle.plate_reader.specs.PlateQuestions.{inside_count, plate_no}
@@ -24,10 +23,3 @@ plate_outcome_of p = record {
 abbrev pub plate_outcome : PlateAnswer → PlateOutcome
 plate_outcome (Accepted i) = record { refused = false; no = 0; inside = i }
 plate_outcome (Refused k) = record { refused = true; no = k; inside = 0 }
-
--- an outcome fixes the answer, constructor and value: so a refusal with number 0 is no answer to any plate
-pub plate-outcome-fixes : (a b : PlateAnswer) → plate_outcome a ≡ plate_outcome b → a ≡ b
-plate-outcome-fixes (Accepted i) (Accepted j) e = λ d. Accepted (e d).inside
-plate-outcome-fixes (Accepted i) (Refused k) e = absurd (true≢false (λ d. (sym e d).refused))
-plate-outcome-fixes (Refused k) (Accepted i) e = absurd (true≢false (λ d. (e d).refused))
-plate-outcome-fixes (Refused k) (Refused m) e = λ d. Refused (e d).no

@@ -10,14 +10,15 @@ use Rattle.format.specs.Sizes.{plate_room, workspace_cells}
 use Rattle.format.specs.Sheet.{point_count}
 use Rattle.format.specs.MakingQuestions.{making_no}
 use Rattle.format.specs.Plate.{best_choice_of, best_plate}
-use Rattle.plate_reader.specs.DemandTwoReader.{parts}
+use Rattle.plate_reader.proofs.DemandTwoReader.{parts}
 use Rattle.plate_maker.specs.Making.{Making}
-use Rattle.plate_maker.specs.MakingLaws.{refused-no, refused-some, made_none, made-accepted, made-start}
+use Rattle.plate_maker.proofs.MakingLaws.{refused-no, refused-some, made_none, made-accepted, made-start}
 use Rattle.plate_maker.specs.declared.MakeAnswer.{MakeAnswer}
 use Rattle.plate_maker.specs.declared.MakeAnswer.TheVariants.{Made, Refused}
 use Rattle.lines.specs.Listing.{listing_of}
 use Rattle.lines.specs.DeskLines.{refusal_line}
-use Rattle.lines.specs.Writing.{Prints, prints-whole, prints-within}
+use Rattle.lines.specs.Writing.{Prints}
+use Rattle.lines.proofs.Writing.{prints-whole, prints-within}
 use Rattle.print_plate.specs.PrintedText.{printed_text, text_room}
 
 same-no : (s o w : List ℕ) →

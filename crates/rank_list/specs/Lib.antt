@@ -1,2 +1,1 @@
--- CASES: rank lists with the number of their first no.
-pub mod RankCases
+

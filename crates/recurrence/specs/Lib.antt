@@ -8,7 +8,6 @@ pub mod Comparisons
 pub mod TieBreak
 -- BOOKKEEPING: tests; the halves of the optimum's proof, step by step.
 pub mod RecurrenceTests
-pub mod Joins
 pub mod Slabs
 pub mod NoBetter
 pub mod Recovered

@@ -5,7 +5,7 @@ use mathlib.Core.List.{List}
 use Prim.Native.Nat.{ℕ, ◌≤◌}
 use lib.Dec.{ltb}
 use lib.ListN.{length}
-use Rattle.streams.specs.Moves.{counts}
+use Rattle.streams.proofs.Moves.{counts}
 use Rattle.script.specs.Calls.{BothStand, CallIn, CallOf, PartIn, PartOf, form_of, part_of}
 use Rattle.script.specs.declared.Kinds.{Kinds}
 use Rattle.script.specs.declared.Form.{Form}

@@ -1,7 +1,6 @@
 -- What the contracts cite: the kinds that are known, with the parts of their calls, and what was read. No contract can speak of what an
 -- operating system read, so all that isn't a whole call says nothing more. Assumes nothing.
-use Rattle.std.specs.Prelude.{ℕ, ◌+◌, ◌*◌, ◌≡◌, refl, cond, List, eqb, ltb}
-use Rattle.std.proofs.Common.{arith}
+use Rattle.std.specs.Prelude.{ℕ, ◌+◌, ◌*◌, ◌≡◌, cond, List, eqb, ltb}
 use Rattle.io.specs.Counts.{IsPrefixLen}
 use Rattle.script.specs.declared.Kinds.{Kinds}
 use Rattle.script.specs.declared.Kinds.TheVariants.{Desk, All}
@@ -82,19 +81,3 @@ CallIn kinds first second (Known kind n m) = BothStand (form_of kinds kind) firs
 CallIn kinds first second Bad = Unit {0}
 CallIn kinds first second Call.End = Unit {0}
 CallIn kinds first second Call.Failed = Unit {0}
-
--- A LAW, for those who call
-
-stands-counts : (part : Part) (buffer : List ℕ) (n : ℕ) → Stands part buffer n → IsPrefixLen n buffer
-stands-counts Absent buffer n h = rw h (omega arith, refl)
-stands-counts Sized buffer n h = h
-
-both-count : (form : Form) (first second : List ℕ) (n m : ℕ) → BothStand form first second n m → IsPrefixLen n first × IsPrefixLen m second
-both-count (Parts a b) first second n m h = (stands-counts a first n h.0, stands-counts b second m h.1)
-both-count Unknown first second n m h = absurd h
-
-pub call-counts : (kinds : Kinds) (first second : List ℕ) (a : Call) (kind n m : ℕ) →
-    CallIn kinds first second a →
-    a ≡ Known kind n m →
-    IsPrefixLen n first × IsPrefixLen m second
-call-counts kinds first second a kind n m h e = both-count (form_of kinds kind) first second n m (rw e at h)

@@ -8,8 +8,8 @@ use borrow.Author.Tests.{eq-eqb, ne_eqb, leb-true}
 use native.Mathlib.Omega.{arith}
 use native.Mathlib.Numerals.{add-one}
 use Rattle.labeling.specs.Conflicts.{every}
-use Rattle.labeling.specs.Decide.{not-both, decide, same, less, and_left}
-use Rattle.labeling.specs.Tests.{every_of, every-is}
+use Rattle.labeling.proofs.Decide.{not-both, decide, same, less, and_left}
+use Rattle.labeling.proofs.Tests.{every_of, every-is}
 use Rattle.format.specs.Answers.{outcome_of}
 use Rattle.format.specs.Sheet.{two_bytes, call_number, up_to, unlike_earlier, point_no, points_no}
 

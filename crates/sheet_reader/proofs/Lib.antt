@@ -1,3 +1,5 @@
 mod Branches
 mod Laws
 mod ReaderParts
+pub mod SheetAnswers
+pub mod PixelNumber

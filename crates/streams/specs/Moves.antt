@@ -1,7 +1,6 @@
 -- What the contracts cite: how many bytes were moved. No contract can speak of what an operating system read or wrote, so a failure says
 -- nothing more. Assumes nothing.
-use Rattle.std.specs.Prelude.{ℕ, ◌≤◌, ◌≡◌, List, length}
-use Rattle.std.proofs.Common.{sym, length-take-le}
+use Rattle.std.specs.Prelude.{ℕ, ◌≤◌, List, length}
 use Rattle.io.specs.Counts.{IsPrefixLen}
 use Rattle.streams.specs.declared.Input.{Input}
 use Rattle.streams.specs.declared.Input.TheVariants.{Read}
@@ -17,14 +16,3 @@ ReadInto buffer Input.Failed = Unit {0}
 abbrev pub WrittenOf : List ℕ → Output → Type 0
 WrittenOf text (Written n) = n ≤ length text
 WrittenOf text Output.Failed = Unit {0}
-
--- LAWS, for those who call
-
-pub counts : (n : ℕ) (buffer : List ℕ) → n ≤ length buffer → IsPrefixLen n buffer
-counts n buffer h = (h, sym (length-take-le n buffer h))
-
-pub read-counts : (buffer : List ℕ) (a : Input) (n : ℕ) → ReadInto buffer a → a ≡ Read n → IsPrefixLen n buffer
-read-counts buffer a n h e = rw e at h
-
-pub written-within : (text : List ℕ) (a : Output) (n : ℕ) → WrittenOf text a → a ≡ Written n → n ≤ length text
-written-within text a n h e = rw e at h

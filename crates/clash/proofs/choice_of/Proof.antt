@@ -5,7 +5,8 @@ use Prim.Native.Nat.{◌-◌, ◌≤◌}
 use lib.Seq.{take_all}
 use lib.ListN.{length, take}
 use native.Mathlib.Omega.{arith}
-use Rattle.clash.specs.ChoiceFlags.{flags_of, flags-none, flags-more}
+use Rattle.clash.specs.ChoiceFlags.{flags_of}
+use Rattle.clash.proofs.ChoiceFlags.{flags-none, flags-more}
 use Rattle.clash.proofs.choice_of.Statement.{statement}
 use Rattle.clash.proofs.choice_of.Tie as tie
 

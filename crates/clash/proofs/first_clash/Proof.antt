@@ -2,7 +2,7 @@
 use borrow.Author.Rules.{rules}
 use mathlib.Core.Path.{◌∙◌}
 use native.Mathlib.Omega.{arith}
-use Rattle.clash.specs.ChoiceFlags.{flags-hold, first-clash-same}
+use Rattle.clash.proofs.ChoiceFlags.{flags-hold, first-clash-same}
 use Rattle.clash.proofs.first_clash.Statement.{statement}
 use Rattle.clash.proofs.first_clash.Tie as tie
 

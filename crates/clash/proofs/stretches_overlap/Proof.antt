@@ -1,7 +1,7 @@
 -- `clash::stretches_overlap` meets its contract. Assumes nothing.
 use borrow.Author.Rules.{rules}
 use mathlib.Core.Path.{sym, ◌∙◌}
-use Rattle.format.specs.Asking.{and_no, and_yes}
+use Rattle.format.proofs.Asking.{and_no, and_yes}
 use Rattle.clash.proofs.stretches_overlap.Statement.{statement}
 use Rattle.clash.proofs.stretches_overlap.Tie as tie
 

@@ -4,7 +4,7 @@ use mathlib.Core.Path.{◌≡◌, sym, ◌∙◌}
 use Prim.Native.Nat.{◌+◌}
 use lib.Dec.{leb}
 use Rattle.format.specs.Sheet.{map_width, map_height, label_width, label_height, column, row}
-use Rattle.format.specs.Asking.{and_no, and_yes}
+use Rattle.format.proofs.Asking.{and_no, and_yes}
 use Rattle.format.proofs.label_on_map.Goals as goal
 use Rattle.format.proofs.label_on_map.Goals.{After-ends_by, After-ends_by-then-ends_by}
 

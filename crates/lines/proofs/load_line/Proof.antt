@@ -1,7 +1,7 @@
 -- `lines::load_line` meets its contract. Assumes nothing.
 use borrow.Author.Rules.{rules}
 use native.Mathlib.Omega.{arith}
-use Rattle.lines.specs.Writing.{prints-looser}
+use Rattle.lines.proofs.Writing.{prints-looser}
 use Rattle.lines.proofs.load_line.Statement.{statement}
 use Rattle.lines.proofs.load_line.Tie as tie
 

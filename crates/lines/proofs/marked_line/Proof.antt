@@ -2,7 +2,7 @@
 use borrow.Author.Rules.{rules}
 use mathlib.Core.Path.{sym}
 use lib.Seq.{length-take-le}
-use Rattle.lines.specs.Writing.{prints-put}
+use Rattle.lines.proofs.Writing.{prints-put}
 use Rattle.lines.proofs.marked_line.Statement.{statement}
 use Rattle.lines.proofs.marked_line.Tie as tie
 

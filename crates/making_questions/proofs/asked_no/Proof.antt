@@ -2,7 +2,7 @@
 use borrow.Author.Rules.{rules}
 use mathlib.Core.Path.{ap, sym, ◌∙◌}
 use Rattle.format.specs.RankList.{ranks_no, lent}
-use Rattle.format.specs.Asking.{then-later, then-first}
+use Rattle.format.proofs.Asking.{then-later, then-first}
 use Rattle.format.specs.MakingQuestions.{asked_no}
 use Rattle.making_questions.proofs.asked_no.Statement.{statement}
 use Rattle.making_questions.proofs.asked_no.Tie as tie

@@ -3,7 +3,7 @@ use borrow.Author.Tests.{le-leb, lt-leb, not-true, not-false}
 use mathlib.Core.Path.{refl}
 use Prim.Native.Nat.{◌≤◌, ◌<◌}
 use native.Mathlib.Omega.{arith}
-use Rattle.format.specs.Asking.{ask-no, ask-yes}
+use Rattle.format.proofs.Asking.{ask-no, ask-yes}
 use Rattle.format.specs.Sizes.{workspace_cells}
 use Rattle.format.specs.MakingQuestions.{workspace_no}
 use Rattle.making_questions.proofs.buffers_no.Statement.{statement}

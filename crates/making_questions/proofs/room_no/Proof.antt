@@ -1,7 +1,7 @@
 -- `making_questions::room_no` meets its contract. Assumes nothing.
 use borrow.Author.Rules.{rules}
-use Rattle.sheet_reader.specs.SheetAnswers.{accepted-none, refused-no}
-use Rattle.format.specs.Asking.{then-later, then-first}
+use Rattle.sheet_reader.proofs.SheetAnswers.{accepted-none, refused-no}
+use Rattle.format.proofs.Asking.{then-later, then-first}
 use Rattle.format.specs.MakingQuestions.{room_no}
 use Rattle.making_questions.proofs.room_no.Statement.{statement}
 use Rattle.making_questions.proofs.room_no.Tie as tie

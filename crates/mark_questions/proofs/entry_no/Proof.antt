@@ -6,7 +6,7 @@ use borrow.Author.Tests.{lt-ltb, le-ltb}
 use borrow.Author.Rules.{rules}
 use native.Mathlib.Omega.{arith}
 use Rattle.format.specs.Sheet.{ask}
-use Rattle.format.specs.Asking.{ask-no, ask-yes}
+use Rattle.format.proofs.Asking.{ask-no, ask-yes}
 use Rattle.mark_questions.specs.MarkQuestions.{above_before, entry_no}
 use Rattle.mark_questions.proofs.Laws.{above_entry, above-first}
 use Rattle.mark_questions.proofs.entry_no.Statement.{statement}

@@ -3,11 +3,11 @@ use mathlib.Core.Path.{ap, ◌∙◌}
 use lib.ListN.{length}
 use borrow.Author.Rules.{rules}
 use native.Mathlib.Omega.{arith}
-use Rattle.format.specs.Bytes.{all_after}
-use Rattle.format.specs.Asking.{ask-no, ask-yes}
+use Rattle.format.proofs.Bytes.{all_after}
+use Rattle.format.proofs.Asking.{ask-no, ask-yes}
 use Rattle.mark_questions.specs.MarkQuestions.{entries_no, list_no}
-use Rattle.mark_questions.specs.Lists.{dec-counted}
-use Rattle.labeling.specs.Decide.{dec-false}
+use Rattle.mark_questions.proofs.Lists.{dec-counted}
+use Rattle.labeling.proofs.Decide.{dec-false}
 use Rattle.mark_questions.proofs.list_no.Statement.{statement}
 use Rattle.mark_questions.proofs.list_no.Tie as tie
 

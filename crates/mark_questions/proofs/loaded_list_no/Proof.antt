@@ -1,7 +1,7 @@
 -- `mark_questions::loaded_list_no` meets its contract. Assumes nothing.
 use borrow.Author.Tests.{not-true, not-false}
 use borrow.Author.Rules.{rules}
-use Rattle.format.specs.Asking.{ask-no, ask-yes}
+use Rattle.format.proofs.Asking.{ask-no, ask-yes}
 use Rattle.mark_questions.specs.MarkQuestions.{list_no, loaded_list_no}
 use Rattle.mark_questions.proofs.loaded_list_no.Statement.{statement}
 use Rattle.mark_questions.proofs.loaded_list_no.Tie as tie

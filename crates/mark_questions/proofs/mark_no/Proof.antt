@@ -3,7 +3,7 @@ use mathlib.Core.Path.{◌≡◌, refl, sym, ◌∙◌}
 use Prim.Native.Nat.{ℕ}
 use borrow.Author.Rules.{rules}
 use Rattle.format.specs.Sheet.{ask}
-use Rattle.format.specs.Asking.{ask-no, ask-yes, off, on, then-first, then-later}
+use Rattle.format.proofs.Asking.{ask-no, ask-yes, off, on, then-first, then-later}
 use Rattle.mark_questions.specs.MarkQuestions.{number_left, mark_no}
 use Rattle.mark_questions.proofs.mark_no.Statement.{statement}
 use Rattle.mark_questions.proofs.mark_no.Tie as tie

@@ -1,8 +1,8 @@
 -- `optimum::best_choice` meets its contract. Assumes nothing.
 use Rattle.std.proofs.Common.{sym, ◌∙◌, arith, rules}
-use Rattle.format.specs.Accepted.{none-sheet}
-use Rattle.format.specs.MakingQuestions.{none-asked}
-use Rattle.optimum.specs.Chosen.{refused-choosing, chosen-choosing}
+use Rattle.format.proofs.Accepted.{none-sheet}
+use Rattle.format.proofs.MakingQuestions.{none-asked}
+use Rattle.optimum.proofs.Chosen.{refused-choosing, chosen-choosing}
 use Rattle.optimum.proofs.best_choice.Statement.{statement}
 use Rattle.optimum.proofs.best_choice.Tie as tie
 

@@ -1,8 +1,8 @@
 -- `orders::both_orders` meets its contract: the calls in turn. Assumes nothing.
 use Rattle.format.specs.RankList.{rank_in, lent}
 use Rattle.orders.specs.HeightOrder.{Fit}
-use Rattle.orders.specs.Fits.{accepted-fits}
-use Rattle.orders.specs.BothOrders.{right-ready, both-orders}
+use Rattle.orders.proofs.Fits.{accepted-fits}
+use Rattle.orders.proofs.BothOrders.{right-ready, both-orders}
 use borrow.Author.Rules.{rules}
 use Rattle.orders.proofs.both_orders.Statement.{statement}
 use Rattle.orders.proofs.both_orders.Tie as tie

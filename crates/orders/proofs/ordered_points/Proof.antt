@@ -1,8 +1,8 @@
 -- `orders::ordered_points` meets its contract. Assumes nothing.
 use mathlib.Core.Path.{refl, sym, ◌∙◌}
-use Rattle.format.specs.Accepted.{none-sheet}
-use Rattle.format.specs.RightRanks.{none-ranks}
-use Rattle.format.specs.MakingQuestions.{none-asked}
+use Rattle.format.proofs.Accepted.{none-sheet}
+use Rattle.format.proofs.RightRanks.{none-ranks}
+use Rattle.format.proofs.MakingQuestions.{none-asked}
 use borrow.Author.Rules.{rules}
 use Rattle.orders.proofs.ordered_points.Statement.{statement}
 use Rattle.orders.proofs.ordered_points.Tie as tie

@@ -1,6 +1,6 @@
 -- `plate_export::desk_load` meets its contract. Assumes nothing.
 use borrow.Author.Rules.{rules}
-use Rattle.plate_export.specs.ExportedDesk.{load-replied}
+use Rattle.plate_export.proofs.ExportedDesk.{load-replied}
 use Rattle.plate_export.proofs.desk_load.Statement.{statement}
 use Rattle.plate_export.proofs.desk_load.Tie as tie
 

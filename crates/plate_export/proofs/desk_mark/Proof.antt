@@ -1,7 +1,7 @@
 -- `plate_export::desk_mark` meets its contract. Assumes nothing.
 use borrow.Author.Rules.{rules}
 use mathlib.Core.Path.{refl}
-use Rattle.plate_export.specs.ExportedDesk.{mark-replied}
+use Rattle.plate_export.proofs.ExportedDesk.{mark-replied}
 use Rattle.plate_export.proofs.desk_mark.Statement.{statement}
 use Rattle.plate_export.proofs.desk_mark.Tie as tie
 

@@ -1,7 +1,7 @@
 -- `plate_export::plate_check_sheet` meets its contract. Assumes nothing.
 use borrow.Author.Rules.{rules}
 use mathlib.Core.Path.{sym}
-use Rattle.sheet_reader.specs.SheetAnswers.{accepted-none, refused-no}
+use Rattle.sheet_reader.proofs.SheetAnswers.{accepted-none, refused-no}
 use Rattle.plate_export.proofs.plate_check_sheet.Statement.{statement}
 use Rattle.plate_export.proofs.plate_check_sheet.Tie as tie
 

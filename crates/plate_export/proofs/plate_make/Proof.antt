@@ -1,6 +1,6 @@
 -- `plate_export::plate_make` meets its contract. Assumes nothing.
 use borrow.Author.Rules.{rules}
-use Rattle.plate_export.specs.Exported.{exported-making}
+use Rattle.plate_export.proofs.Exported.{exported-making}
 use Rattle.plate_export.proofs.plate_make.Statement.{statement}
 use Rattle.plate_export.proofs.plate_make.Tie as tie
 

@@ -1,6 +1,6 @@
 -- `plate_export::plate_make_ranked` meets its contract. Assumes nothing.
 use borrow.Author.Rules.{rules}
-use Rattle.plate_export.specs.Exported.{exported-making}
+use Rattle.plate_export.proofs.Exported.{exported-making}
 use Rattle.plate_export.proofs.plate_make_ranked.Statement.{statement}
 use Rattle.plate_export.proofs.plate_make_ranked.Tie as tie
 

@@ -2,7 +2,7 @@
 use borrow.Author.Rules.{rules}
 use mathlib.Core.Path.{ap}
 use Prim.Native.Nat.{ℕ, ◌+◌, ◌*◌}
-use Rattle.plate_export.specs.Exported.{exported-accepted, exported-refused-plate}
+use Rattle.plate_export.proofs.Exported.{exported-accepted, exported-refused-plate}
 use Rattle.plate_export.proofs.plate_read.Statement.{statement}
 use Rattle.plate_export.proofs.plate_read.Tie as tie
 

@@ -4,13 +4,15 @@ use mathlib.Core.Path.{◌≡◌, sym, ap, ◌∙◌}
 use mathlib.Core.List.{List}
 use mathlib.Core.Option.{Option}
 use Prim.Native.Nat.{ℕ}
-use Rattle.format.specs.Accepted.{none-sheet}
+use Rattle.format.proofs.Accepted.{none-sheet}
 use lib.ListN.{length}
-use Rattle.format.specs.MakingQuestions.{choosing_no, making_no, none-making}
+use Rattle.format.specs.MakingQuestions.{choosing_no, making_no}
+use Rattle.format.proofs.MakingQuestions.{none-making}
 use Rattle.format.specs.RankList.{rank_in, lent}
 use Rattle.format.specs.Plate.{best_choice_of, best_plate}
-use Rattle.optimum.specs.Choosing.{split_of, chosen-no, chosen-split}
-use Rattle.plate_maker.specs.MakingLaws.{refused-making, made-making}
+use Rattle.optimum.specs.Choosing.{split_of}
+use Rattle.optimum.proofs.ChoosingLaws.{chosen-no, chosen-split}
+use Rattle.plate_maker.proofs.MakingLaws.{refused-making, made-making}
 use Rattle.plate_maker.proofs.make_with.Statement.{statement}
 use Rattle.plate_maker.proofs.make_with.Tie as tie
 

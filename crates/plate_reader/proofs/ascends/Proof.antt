@@ -3,7 +3,7 @@ use borrow.Author.Rules.{rules}
 use mathlib.Core.Path.{◌≡◌, refl, sym, ◌∙◌}
 use Prim.Native.Nat.{◌-◌, ◌≤◌}
 use lib.ListN.{length, drop}
-use Rattle.format.specs.Asking.{off, on}
+use Rattle.format.proofs.Asking.{off, on}
 use Rattle.format.specs.Ascending.{ascending}
 use Rattle.plate_reader.proofs.Laws.{up-high, up_next, up_more, up-end}
 use Rattle.plate_reader.proofs.ascends.Statement.{statement}

@@ -5,7 +5,7 @@ use Prim.Native.Nat.{◌≤◌}
 use lib.ListN.{length, drop_of_length-le}
 use native.Mathlib.Nat.{le_refl}
 use native.Mathlib.Omega.{arith}
-use Rattle.format.specs.Bytes.{all_after}
+use Rattle.format.proofs.Bytes.{all_after}
 use Rattle.plate_reader.proofs.bytes_after.Statement.{statement}
 use Rattle.plate_reader.proofs.bytes_after.Tie as tie
 

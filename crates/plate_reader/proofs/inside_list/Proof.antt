@@ -3,7 +3,7 @@ use borrow.Author.Rules.{rules}
 use mathlib.Core.Path.{◌≡◌, refl, sym, ◌∙◌}
 use native.Mathlib.Omega.{arith}
 use Rattle.plate_reader.specs.PlateQuestions.{plate_no}
-use Rattle.plate_reader.specs.PlateSections.{dec-fit}
+use Rattle.plate_reader.proofs.PlateSections.{dec-fit}
 use Rattle.plate_reader.proofs.Laws.{refused-list, refused-at, accepted-list, accepted-at, accepted-fits}
 use Rattle.plate_reader.proofs.inside_list.Statement.{statement}
 use Rattle.plate_reader.proofs.inside_list.Tie as tie

@@ -3,7 +3,7 @@ use borrow.Author.Rules.{rules}
 use mathlib.Core.Path.{ap, ◌∙◌}
 use lib.Dec.{eqb}
 use Rattle.format.specs.Sheet.{points_of}
-use Rattle.format.specs.Asking.{off, on}
+use Rattle.format.proofs.Asking.{off, on}
 use Rattle.clash.specs.ChoiceFlags.{held}
 use Rattle.plate_reader.proofs.Laws.{follows-point, follows-order, follows-column}
 use Rattle.plate_reader.proofs.pair_follows.Statement.{statement}

@@ -4,7 +4,7 @@ use mathlib.Core.Path.{◌≡◌, refl, sym, ◌∙◌}
 use Prim.Native.Nat.{◌-◌, ◌≤◌}
 use lib.ListN.{length, drop}
 use Rattle.format.specs.Sheet.{points_of}
-use Rattle.format.specs.Asking.{off, on}
+use Rattle.format.proofs.Asking.{off, on}
 use Rattle.clash.specs.ChoiceFlags.{held}
 use Rattle.plate_reader.specs.OutsideWalk.{pairs_after}
 use Rattle.plate_reader.proofs.Laws.{after-no, after_more, after-end}

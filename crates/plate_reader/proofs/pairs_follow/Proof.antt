@@ -2,7 +2,7 @@
 use borrow.Author.Rules.{rules}
 use native.Mathlib.Omega.{arith}
 use Rattle.format.specs.Sheet.{points_of}
-use Rattle.format.specs.Asking.{off, on}
+use Rattle.format.proofs.Asking.{off, on}
 use Rattle.clash.specs.ChoiceFlags.{held}
 use Rattle.plate_reader.proofs.Laws.{pairs-none, pairs-one, pairs-point, pairs-margin, pairs-rest}
 use Rattle.plate_reader.proofs.pairs_follow.Statement.{statement}

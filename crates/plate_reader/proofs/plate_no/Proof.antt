@@ -4,7 +4,7 @@ use mathlib.Core.Path.{◌≡◌, refl, sym, ap, ◌∙◌}
 use lib.Dec.{leb}
 use lib.ListN.{length}
 use Rattle.format.specs.Sheet.{questions_no, plate_sheet_no}
-use Rattle.format.specs.Asking.{Rung, first_of, past_list, stops-list}
+use Rattle.format.proofs.Asking.{Rung, first_of, past_list, stops-list}
 use Rattle.plate_reader.specs.PlateQuestions.{plate_no}
 use Rattle.plate_reader.proofs.plate_no.Statement.{statement}
 use Rattle.plate_reader.proofs.plate_no.Tie as tie

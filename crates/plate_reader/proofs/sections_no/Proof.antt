@@ -3,10 +3,10 @@ use borrow.Author.Rules.{rules}
 use mathlib.Core.Path.{◌≡◌, refl, sym, ap, ap₂, ◌∙◌}
 use mathlib.Core.Bool.{true, not}
 use Rattle.format.specs.Sheet.{points_of}
-use Rattle.format.specs.Accepted.{none-plate-sheet}
+use Rattle.format.proofs.Accepted.{none-plate-sheet}
 use Rattle.format.specs.Plate.{choice_of}
 use Rattle.format.specs.Ascending.{ascending}
-use Rattle.format.specs.Asking.{on, Rung, first_of, past, stops, Answer, answers, past_answer, stops-answer}
+use Rattle.format.proofs.Asking.{on, Rung, first_of, past, stops, Answer, answers, past_answer, stops-answer}
 use Rattle.clash.specs.FirstClash.{is_clash, first_clash}
 use Rattle.plate_reader.specs.PlateQuestions.{sections_fit, sections_no}
 use Rattle.plate_reader.proofs.Laws.{walk-read}

@@ -1,6 +1,6 @@
 -- `print_plate::main` meets its contract. Assumes nothing.
 use borrow.Author.Rules.{rules}
-use Rattle.streams.specs.Moves.{read-counts}
+use Rattle.streams.proofs.Moves.{read-counts}
 use Rattle.print_plate.proofs.main.Statement.{statement}
 use Rattle.print_plate.proofs.main.Tie as tie
 

@@ -5,7 +5,7 @@ use Prim.Native.Nat.{ℕ}
 use lib.ListN.{length-replicate}
 use lib.Seq.{length-take-le}
 use Rattle.format.specs.Sizes.{workspace_cells}
-use Rattle.plate_maker.specs.MakingLaws.{made-within}
+use Rattle.plate_maker.proofs.MakingLaws.{made-within}
 use Rattle.print_plate.proofs.Laws.{made-text, refused-text}
 use Rattle.print_plate.proofs.put_text.Statement.{statement}
 use Rattle.print_plate.proofs.put_text.Tie as tie

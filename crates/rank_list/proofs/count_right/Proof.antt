@@ -5,9 +5,9 @@ use borrow.Author.Tests.{eq-eqb, lt-ltb}
 use Prim.Native.Nat.{◌<◌}
 use lib.ListN.{length, get_or}
 use native.Mathlib.Omega.{arith}
-use Rattle.labeling.specs.Decide.{dec-false}
+use Rattle.labeling.proofs.Decide.{dec-false}
 use Rattle.format.specs.RankList.{rank_count_right}
-use Rattle.format.specs.RightRanks.{dec-rank-count}
+use Rattle.format.proofs.RightRanks.{dec-rank-count}
 use Rattle.rank_list.proofs.count_right.Statement.{statement}
 use Rattle.rank_list.proofs.count_right.Tie as tie
 

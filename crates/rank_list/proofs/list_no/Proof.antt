@@ -2,7 +2,7 @@
 use borrow.Author.Rules.{rules}
 use mathlib.Core.Path.{refl}
 use Rattle.format.specs.RankList.{ranks_no}
-use Rattle.format.specs.Asking.{ask-no, ask-yes, off, on}
+use Rattle.format.proofs.Asking.{ask-no, ask-yes, off, on}
 use Rattle.rank_list.proofs.list_no.Statement.{statement}
 use Rattle.rank_list.proofs.list_no.Tie as tie
 

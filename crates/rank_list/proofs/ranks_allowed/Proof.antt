@@ -8,8 +8,8 @@ use mathlib.Core.Option.{some}
 use Prim.Native.Nat.{ℕ, ◌-◌, ◌≤◌, ◌<◌}
 use native.Mathlib.Omega.{arith}
 use Rattle.labeling.specs.Conflicts.{every}
-use Rattle.labeling.specs.Decide.{not-both, decide}
-use Rattle.labeling.specs.Tests.{every_of, every-is}
+use Rattle.labeling.proofs.Decide.{not-both, decide}
+use Rattle.labeling.proofs.Tests.{every_of, every-is}
 use Rattle.format.specs.Sheet.{up_to}
 use Rattle.format.specs.RankList.{rank_in, ranks_allowed}
 use Rattle.rank_list.proofs.ranks_allowed.Statement.{statement}

@@ -3,7 +3,7 @@ use borrow.Author.Rules.{rules}
 use mathlib.Core.Path.{sym}
 use lib.Seq.{length-take-le}
 use native.Mathlib.Omega.{arith}
-use Rattle.lines.specs.Writing.{prints-whole, prints-within}
+use Rattle.lines.proofs.Writing.{prints-whole, prints-within}
 use Rattle.session.proofs.answer_on_desk.Statement.{statement}
 use Rattle.session.proofs.answer_on_desk.Tie as tie
 

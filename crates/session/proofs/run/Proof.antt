@@ -1,7 +1,8 @@
 -- `session::run` meets its contract. Assumes nothing.
 use borrow.Author.Rules.{rules}
-use Rattle.script.specs.Calls.{call-counts}
-use Rattle.session.specs.Session.{Reached, reached-fresh, reached-after}
+use Rattle.script.proofs.Calls.{call-counts}
+use Rattle.session.specs.Session.{Reached}
+use Rattle.session.proofs.Session.{reached-fresh, reached-after}
 use Rattle.session.proofs.run.Statement.{statement}
 use Rattle.session.proofs.run.Tie as tie
 

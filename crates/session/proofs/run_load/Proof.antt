@@ -1,6 +1,6 @@
 -- `session::run_load` meets its contract. Assumes nothing.
 use borrow.Author.Rules.{rules}
-use Rattle.desk.specs.DeskLaws.{loading-exactly}
+use Rattle.desk.proofs.DeskLaws.{loading-exactly}
 use Rattle.session.proofs.run_load.Statement.{statement}
 use Rattle.session.proofs.run_load.Tie as tie
 

@@ -2,7 +2,7 @@
 use borrow.Author.Rules.{rules}
 use mathlib.Core.Path.{◌≡◌, ap, subst}
 use Rattle.desk.specs.Desk.{mark_of}
-use Rattle.desk.specs.DeskLaws.{marking-exactly}
+use Rattle.desk.proofs.DeskLaws.{marking-exactly}
 use Rattle.desk.specs.declared.MarkResult.{MarkResult}
 use Rattle.lines.specs.Rooms.{line_room}
 use Rattle.lines.specs.DeskLines.{mark_line}

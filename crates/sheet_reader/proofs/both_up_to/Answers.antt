@@ -1,7 +1,7 @@
 -- `sheet_reader::both_up_to` meets its contract. Assumes nothing.
 use borrow.Author.Rules.{rules}
 use mathlib.Core.Path.{sym, ◌∙◌}
-use Rattle.format.specs.Asking.{and_no, and_yes}
+use Rattle.format.proofs.Asking.{and_no, and_yes}
 use Rattle.sheet_reader.proofs.both_up_to.Goals as goal
 
 pub returns-then-up_to : goal.returns-then-up_to

@@ -3,7 +3,7 @@ use borrow.Author.Rules.{rules}
 use borrow.Author.Tests.{lt-ltb, le-ltb}
 use lib.Dec.{ltb}
 use mathlib.Core.Path.{sym, ◌∙◌, ap}
-use Rattle.format.specs.Asking.{and_no, and_yes}
+use Rattle.format.proofs.Asking.{and_no, and_yes}
 use Rattle.sheet_reader.proofs.on_map.Goals as goal
 
 pub returns-then-point-map_width : goal.returns-then-point-map_width

@@ -4,7 +4,7 @@ use mathlib.Core.Path.{refl, ap, ◌∙◌}
 use Prim.Native.Nat.{◌+◌, ◌*◌, ◌≤◌}
 use lib.ListN.{length}
 use Rattle.format.specs.Sheet.{up_to, on_map, point_no}
-use Rattle.format.specs.Asking.{on, Rung, first_of, Answer, answers, past_answer, stops-answer}
+use Rattle.format.proofs.Asking.{on, Rung, first_of, Answer, answers, past_answer, stops-answer}
 use Rattle.sheet_reader.specs.declared.reader.SheetPoint.{SheetPoint}
 use Rattle.sheet_reader.proofs.Laws.{whole_before}
 use Rattle.sheet_reader.proofs.point_no.Goals as goal

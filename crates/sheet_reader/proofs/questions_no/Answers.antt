@@ -8,7 +8,7 @@ use Prim.Native.Nat.{◌<◌}
 use mathlib.Core.Bool.{Bool}
 use mathlib.Core.Path.{refl, sym, ap, ap₂, ◌∙◌}
 use Rattle.format.specs.Sheet.{both_up_to, questions_no}
-use Rattle.format.specs.Asking.{Rung, first_of, past, stops, Answer, answers, past_answer, stops-answer}
+use Rattle.format.proofs.Asking.{Rung, first_of, past, stops, Answer, answers, past_answer, stops-answer}
 use Rattle.sheet_reader.proofs.questions_no.Goals as goal
 use Rattle.sheet_reader.proofs.questions_no.Goals.{After-both_up_to, After-both_up_to-2}
 use Rattle.sheet_reader.proofs.questions_no.Tie as tie

@@ -3,7 +3,7 @@ use borrow.Author.Rules.{rules}
 use Prim.Native.Nat.{◌≤◌, ◌-◌}
 use lib.ListN.{length}
 use native.Mathlib.Omega.{arith}
-use Rattle.streams.specs.Moves.{written-within}
+use Rattle.streams.proofs.Moves.{written-within}
 use Rattle.streams.proofs.write_output.Statement.{statement}
 use Rattle.streams.proofs.write_output.Tie as tie
 

@@ -9,7 +9,7 @@ use Rattle.format.specs.Sizes.{most_points}
 use Rattle.format.specs.Padded.{padded}
 use Rattle.format.specs.RankList.{rank_in, lent}
 use Rattle.desk.specs.Desk.{ranks_below}
-use Rattle.desk.specs.Loaded.{ranks-more}
+use Rattle.desk.proofs.Loaded.{ranks-more}
 use Rattle.desk.proofs.Laws.{no-ranks-padded}
 use Rattle.desk.proofs.loading.padded_ranks.Statement.{statement}
 use Rattle.desk.proofs.loading.padded_ranks.Tie as tie

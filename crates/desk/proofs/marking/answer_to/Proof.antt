@@ -4,9 +4,10 @@ use mathlib.Core.Path.{◌≡◌, sym, ap₂, ◌∙◌}
 use mathlib.Core.Bool.{true}
 use Prim.Native.Nat.{◌<◌}
 use Rattle.format.specs.Sheet.{point_count}
-use Rattle.mark_questions.specs.Lists.{Listed, none-mark}
+use Rattle.mark_questions.specs.Lists.{Listed}
+use Rattle.mark_questions.proofs.Lists.{none-mark}
 use Rattle.desk.specs.Desk.{mark_result}
-use Rattle.desk.specs.DeskLaws.{mark-yes, mark-no, marking-exactly}
+use Rattle.desk.proofs.DeskLaws.{mark-yes, mark-no, marking-exactly}
 use Rattle.desk.specs.declared.MarkAnswer.TheVariants.{Marked}
 use Rattle.desk.proofs.marking.answer_to.Statement.{statement}
 use Rattle.desk.proofs.marking.answer_to.Tie as tie

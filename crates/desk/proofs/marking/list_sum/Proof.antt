@@ -3,7 +3,7 @@ use mathlib.Core.Path.{ap, ◌∙◌}
 use lib.ListN.{length-drop}
 use borrow.Author.Rules.{rules}
 use native.Mathlib.Omega.{arith}
-use Rattle.format.specs.Bytes.{all_after}
+use Rattle.format.proofs.Bytes.{all_after}
 use Rattle.desk.specs.Desk.{sum_of, rank_held}
 use Rattle.desk.proofs.marking.list_sum.Statement.{statement}
 use Rattle.desk.proofs.marking.list_sum.Tie as tie

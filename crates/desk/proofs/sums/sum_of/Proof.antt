@@ -8,7 +8,7 @@ use borrow.Author.Rules.{rules}
 use native.Mathlib.Omega.{arith}
 use native.Mathlib.Numerals.{add-one}
 use Rattle.desk.specs.Desk.{sum_of, rank_held}
-use Rattle.desk.specs.Sums.{sum-last}
+use Rattle.desk.proofs.SumsLaws.{sum-last}
 use Rattle.desk.proofs.sums.sum_of.Statement.{statement}
 use Rattle.desk.proofs.sums.sum_of.Tie as tie
 

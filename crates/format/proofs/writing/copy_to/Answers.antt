@@ -2,7 +2,7 @@
 use borrow.Author.Rules.{rules}
 use mathlib.Core.Path.{sym, ◌∙◌}
 use native.Mathlib.Omega.{arith}
-use Rattle.format.specs.Written.{written-fits, written-no-room}
+use Rattle.format.proofs.Written.{written-fits, written-no-room}
 use Rattle.format.proofs.writing.copy_to.Goals as goal
 
 pub returns-then-output-at : goal.returns-then-output-at

@@ -5,7 +5,7 @@ use lib.ListN.{length}
 use native.Mathlib.Omega.{arith}
 use Rattle.lines.specs.Rooms.{verdict_room}
 use Rattle.lines.specs.DeskLines.{clash_text}
-use Rattle.lines.specs.Writing.{put-more}
+use Rattle.lines.proofs.Writing.{put-more}
 use Rattle.lines.proofs.desk_lines.put_clash.Statement.{statement}
 use Rattle.lines.proofs.desk_lines.put_clash.Tie as tie
 

@@ -1,7 +1,7 @@
 -- `lines::desk_lines::put_kind` meets its contract. Assumes nothing.
 use borrow.Author.Rules.{rules}
 use native.Mathlib.Omega.{arith}
-use Rattle.lines.specs.Writing.{put-looser}
+use Rattle.lines.proofs.Writing.{put-looser}
 use Rattle.lines.proofs.desk_lines.put_kind.Statement.{statement}
 use Rattle.lines.proofs.desk_lines.put_kind.Tie as tie
 

@@ -6,7 +6,7 @@ use lib.ListN.{length}
 use native.Mathlib.Omega.{arith}
 use Rattle.format.specs.Sheet.{point_count}
 use Rattle.lines.specs.DeskLines.{loaded_line}
-use Rattle.lines.specs.Writing.{put-more}
+use Rattle.lines.proofs.Writing.{put-more}
 use Rattle.lines.proofs.desk_lines.put_loaded.Statement.{statement}
 use Rattle.lines.proofs.desk_lines.put_loaded.Tie as tie
 

@@ -5,7 +5,7 @@ use lib.ListN.{length}
 use native.Mathlib.Omega.{arith}
 use Rattle.lines.specs.Rooms.{line_room}
 use Rattle.lines.specs.DeskLines.{marked_line}
-use Rattle.lines.specs.Writing.{put-more}
+use Rattle.lines.proofs.Writing.{put-more}
 use Rattle.lines.proofs.desk_lines.put_marked.Statement.{statement}
 use Rattle.lines.proofs.desk_lines.put_marked.Tie as tie
 

@@ -4,7 +4,7 @@ use Prim.Native.Nat.{◌≤◌}
 use lib.ListN.{length}
 use native.Mathlib.Omega.{arith}
 use Rattle.lines.specs.DeskLines.{refusal_line}
-use Rattle.lines.specs.Writing.{put-more}
+use Rattle.lines.proofs.Writing.{put-more}
 use Rattle.lines.proofs.desk_lines.put_refusal.Statement.{statement}
 use Rattle.lines.proofs.desk_lines.put_refusal.Tie as tie
 

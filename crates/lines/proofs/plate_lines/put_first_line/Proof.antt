@@ -8,7 +8,7 @@ use Rattle.format.specs.Sheet.{point_count}
 use Rattle.plate_reader.specs.PlateQuestions.{inside_count, outside_pairs}
 use Rattle.lines.specs.Rooms.{first_line_room}
 use Rattle.lines.specs.Listing.{columns_used, first_line}
-use Rattle.lines.specs.Writing.{put-more}
+use Rattle.lines.proofs.Writing.{put-more}
 use Rattle.lines.proofs.plate_lines.put_first_line.Statement.{statement}
 use Rattle.lines.proofs.plate_lines.put_first_line.Tie as tie
 

@@ -5,7 +5,7 @@ use lib.ListN.{length}
 use native.Mathlib.Omega.{arith}
 use Rattle.lines.specs.Rooms.{listing_room, most_points}
 use Rattle.lines.specs.Listing.{listing_of}
-use Rattle.lines.specs.Writing.{put-more}
+use Rattle.lines.proofs.Writing.{put-more}
 use Rattle.lines.proofs.plate_lines.put_listing.Statement.{statement}
 use Rattle.lines.proofs.plate_lines.put_listing.Tie as tie
 

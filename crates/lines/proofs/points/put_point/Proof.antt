@@ -7,10 +7,11 @@ use native.Mathlib.Omega.{arith}
 use Rattle.labeling.specs.Points.{among}
 use Rattle.format.specs.Sheet.{call_number}
 use Rattle.plate_reader.specs.PlateQuestions.{inside_list}
-use Rattle.clash.specs.ChoiceFlags.{held, flags-hold}
+use Rattle.clash.specs.ChoiceFlags.{held}
+use Rattle.clash.proofs.ChoiceFlags.{flags-hold}
 use Rattle.lines.specs.Rooms.{point_room}
 use Rattle.lines.specs.Listing.{point_line}
-use Rattle.lines.specs.Writing.{put-more}
+use Rattle.lines.proofs.Writing.{put-more}
 use Rattle.lines.proofs.points.put_point.Statement.{statement}
 use Rattle.lines.proofs.points.put_point.Tie as tie
 

@@ -4,8 +4,8 @@ use Prim.Native.Nat.{ℕ, ◌<◌, ◌≤◌}
 use native.Mathlib.Omega.{arith}
 use borrow.Fn.Kinds.{In}
 use borrow.Fn.PlainCycle.{Measures, is, falls, and}
-use Rattle.lines.specs.Decimal.{decimal-small, decimal-length, one-longer}
-use Rattle.lines.specs.Writing.{put-looser}
+use Rattle.lines.proofs.Decimal.{decimal-small, decimal-length, one-longer}
+use Rattle.lines.proofs.Writing.{put-looser}
 use Rattle.lines.proofs.Laws.{put-longer}
 use Rattle.lines.proofs.text.put_decimal.Reads as put-decimal
 use Rattle.lines.proofs.text.put_decimal.Kinds as put-decimal-kinds

@@ -2,7 +2,7 @@
 use borrow.Author.Rules.{rules}
 use mathlib.Core.Path.{◌≡◌}
 use Rattle.lines.specs.Text.{digit}
-use Rattle.lines.specs.Writing.{put_one}
+use Rattle.lines.proofs.Writing.{put_one}
 use Rattle.lines.proofs.text.put_digit.Statement.{statement}
 use Rattle.lines.proofs.text.put_digit.Tie as tie
 

@@ -1,10 +1,12 @@
 -- `optimum::choosing::chosen` meets its contract: the calls in turn. Assumes nothing.
 use Rattle.std.proofs.Common.{◌≡◌, ℕ, List, length, replicate, ap, ◌∙◌, arith, rules}
 use Rattle.orders.specs.BothOrders.{BothOrders}
-use Rattle.format.specs.Accepted.{Accepted, accepted}
-use Rattle.optimum.specs.Prepared.{Prepared, prepared}
-use Rattle.optimum.specs.Split.{numbered}
-use Rattle.optimum.specs.Chosen.{none-blank, none-valid, lists-chosen, none-chosen}
+use Rattle.format.specs.Accepted.{Accepted}
+use Rattle.format.proofs.Accepted.{accepted}
+use Rattle.optimum.specs.Prepared.{Prepared}
+use Rattle.optimum.proofs.Prepared.{prepared}
+use Rattle.optimum.proofs.Split.{numbered}
+use Rattle.optimum.proofs.Chosen.{none-blank, none-valid, lists-chosen, none-chosen}
 use Rattle.optimum.proofs.choosing.chosen.Statement.{statement}
 use Rattle.optimum.proofs.choosing.chosen.Tie as tie
 

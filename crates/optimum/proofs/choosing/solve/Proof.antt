@@ -1,7 +1,7 @@
 -- `optimum::choosing::solve` meets its contract, by the value and the recovery of all points. Assumes nothing.
 use Rattle.std.proofs.Common.{◌∙◌, arith, rules}
-use Rattle.optimum.specs.Memo.{memo-none}
-use Rattle.optimum.specs.Recovery.{all-ready, all_none, all-solved}
+use Rattle.optimum.proofs.Memo.{memo-none}
+use Rattle.optimum.proofs.RecoveryLaws.{all-ready, all_none, all-solved}
 use Rattle.optimum.proofs.choosing.solve.Statement.{statement}
 use Rattle.optimum.proofs.choosing.solve.Tie as tie
 

@@ -2,7 +2,7 @@
 use Rattle.std.proofs.Common.{refl, ◌∙◌, arith, rules}
 use Rattle.orders.specs.Arrays.{heights_of, position_at}
 use Rattle.optimum.specs.Split.{flagged}
-use Rattle.optimum.specs.Lists.{inside-few, down-few, written-padded}
+use Rattle.optimum.proofs.ListsLaws.{inside-few, down-few, written-padded}
 use Rattle.optimum.proofs.choosing.two_lists.Statement.{statement}
 use Rattle.optimum.proofs.choosing.two_lists.Tie as tie
 

@@ -1,5 +1,5 @@
 -- `optimum::conflicts::ends_below` meets its contract: the tests in turn. Assumes nothing.
-use Rattle.optimum.specs.Conflicts.{ends-boundary, ends-point}
+use Rattle.optimum.proofs.ConflictsLaws.{ends-boundary, ends-point}
 use Rattle.std.proofs.Common.{arith, rules}
 use Rattle.optimum.proofs.conflicts.ends_below.Statement.{statement}
 use Rattle.optimum.proofs.conflicts.ends_below.Tie as tie

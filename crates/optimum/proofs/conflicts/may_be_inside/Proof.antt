@@ -2,9 +2,10 @@
 use Rattle.std.proofs.Common.{◌≡◌, Bool, leb, sym, ap, ◌∙◌, rules, le-leb}
 use borrow.Author.Tests.{not-true, not-false, lt-leb}
 use Rattle.recurrence.specs.Recurrence.{Heights, may_be_inside}
-use Rattle.format.specs.Asking.{and_no, and_yes}
+use Rattle.format.proofs.Asking.{and_no, and_yes}
 use Rattle.orders.specs.Arrays.{heights_of}
-use Rattle.optimum.specs.Conflicts.{beside_reaching, below_upper, below_high, above_top, inside-tested, beside_none, beside-some}
+use Rattle.optimum.specs.Conflicts.{beside_reaching, below_upper, below_high, above_top}
+use Rattle.optimum.proofs.ConflictsLaws.{inside-tested, beside_none, beside-some}
 use Rattle.optimum.proofs.conflicts.may_be_inside.Statement.{statement}
 use Rattle.optimum.proofs.conflicts.may_be_inside.Tie as tie
 

@@ -1,6 +1,6 @@
 -- `optimum::conflicts::overlaps` meets its contract: the tests in turn. Assumes nothing.
 use borrow.Author.Tests.{not-true, not-false}
-use Rattle.optimum.specs.Conflicts.{overlaps-not, overlaps-rest}
+use Rattle.optimum.proofs.ConflictsLaws.{overlaps-not, overlaps-rest}
 use Rattle.std.proofs.Common.{sym, ◌∙◌, rules}
 use Rattle.optimum.proofs.conflicts.overlaps.Statement.{statement}
 use Rattle.optimum.proofs.conflicts.overlaps.Tie as tie

@@ -1,5 +1,5 @@
 -- `optimum::conflicts::reach` meets its contract, by the topmost label. Assumes nothing.
-use Rattle.optimum.specs.Conflicts.{reach-newer, reach-nobody, reach-older, reach-none}
+use Rattle.optimum.proofs.ConflictsLaws.{reach-newer, reach-nobody, reach-older, reach-none}
 use Rattle.std.proofs.Common.{sym, ◌∙◌, rules}
 use Rattle.optimum.proofs.conflicts.reach.Statement.{statement}
 use Rattle.optimum.proofs.conflicts.reach.Tie as tie

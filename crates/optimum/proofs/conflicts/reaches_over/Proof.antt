@@ -1,5 +1,5 @@
 -- `optimum::conflicts::reaches_over` meets its contract: the tests in turn. Assumes nothing.
-use Rattle.optimum.specs.Conflicts.{reaches-below, reaches-left, reaches-rest}
+use Rattle.optimum.proofs.ConflictsLaws.{reaches-below, reaches-left, reaches-rest}
 use Rattle.std.proofs.Common.{arith, rules}
 use Rattle.optimum.proofs.conflicts.reaches_over.Statement.{statement}
 use Rattle.optimum.proofs.conflicts.reaches_over.Tie as tie

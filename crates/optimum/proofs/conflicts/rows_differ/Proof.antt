@@ -1,5 +1,5 @@
 -- `optimum::conflicts::rows_differ` meets its contract: the tests in turn. Assumes nothing.
-use Rattle.optimum.specs.Conflicts.{differ-boundary, differ-point}
+use Rattle.optimum.proofs.ConflictsLaws.{differ-boundary, differ-point}
 use Rattle.std.proofs.Common.{arith, rules}
 use Rattle.optimum.proofs.conflicts.rows_differ.Statement.{statement}
 use Rattle.optimum.proofs.conflicts.rows_differ.Tie as tie

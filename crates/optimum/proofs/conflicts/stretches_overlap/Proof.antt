@@ -1,5 +1,5 @@
 -- `optimum::conflicts::stretches_overlap` meets its contract: the tests in turn. Assumes nothing.
-use Rattle.optimum.specs.Conflicts.{stretches-not, stretches-rest}
+use Rattle.optimum.proofs.ConflictsLaws.{stretches-not, stretches-rest}
 use Rattle.std.proofs.Common.{rules}
 use Rattle.optimum.proofs.conflicts.stretches_overlap.Statement.{statement}
 use Rattle.optimum.proofs.conflicts.stretches_overlap.Tie as tie

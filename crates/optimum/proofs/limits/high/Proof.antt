@@ -2,7 +2,8 @@
 use Rattle.std.proofs.Common.{◌≡◌, ◌+◌, ◌-◌, ◌<◌, ◌≤◌, sym, ◌∙◌, arith, rules}
 use Rattle.recurrence.specs.Comparisons.{overlaps_above}
 use Rattle.orders.specs.Arrays.{heights_of}
-use Rattle.optimum.specs.Limits.{AtLeast, high-start, high-ends, high-found, high-next, high-none}
+use Rattle.optimum.specs.Limits.{AtLeast}
+use Rattle.optimum.proofs.LimitsLaws.{high-start, high-ends, high-found, high-next, high-none}
 use Rattle.optimum.proofs.limits.high.Statement.{statement}
 use Rattle.optimum.proofs.limits.high.Tie as tie
 

@@ -3,8 +3,10 @@
 use Rattle.std.proofs.Common.{◌≡◌, ◌+◌, ◌-◌, ◌≤◌, ◌∙◌, arith, rules}
 use Rattle.recurrence.specs.Recurrence.{Point}
 use Rattle.orders.specs.Arrays.{heights_of}
-use Rattle.optimum.specs.SameHeights.{SameHeights, high_same, top-same}
-use Rattle.optimum.specs.Limits.{InOrder, LimitedTo, limited-none, limited-more, limited, kept_same, kept-order}
+use Rattle.optimum.specs.SameHeights.{SameHeights}
+use Rattle.optimum.proofs.SameHeights.{high_same, top-same}
+use Rattle.optimum.specs.Limits.{InOrder, LimitedTo}
+use Rattle.optimum.proofs.LimitsLaws.{limited-none, limited-more, limited, kept_same, kept-order}
 use Rattle.optimum.proofs.limits.write_limits.Statement.{statement}
 use Rattle.optimum.proofs.limits.write_limits.Tie as tie
 

@@ -2,7 +2,8 @@
 use Rattle.std.proofs.Common.{◌≡◌, ◌+◌, ◌-◌, ◌<◌, ◌≤◌, length, ap, ◌∙◌, arith, length-set, rules}
 use Rattle.recurrence.specs.Recurrence.{Point}
 use Rattle.orders.specs.Arrays.{heights_of, position_at}
-use Rattle.optimum.specs.ByPosition.{CopiedTo, copied_none, copied_next}
+use Rattle.optimum.specs.ByPosition.{CopiedTo}
+use Rattle.optimum.proofs.ByPosition.{copied_none, copied_next}
 use Rattle.optimum.proofs.lists.by_position.Statement.{statement}
 use Rattle.optimum.proofs.lists.by_position.Tie as tie
 

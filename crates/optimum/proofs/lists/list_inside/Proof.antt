@@ -2,9 +2,10 @@
 use Rattle.std.proofs.Common.{◌≡◌, ◌-◌, ◌≤◌, true, false, length, sym, ◌∙◌, arith, length-set, rules}
 use Rattle.labeling.specs.Points.{Choice}
 use Rattle.format.specs.Plate.{inside_below}
-use Rattle.format.specs.Written.{written, written_none}
+use Rattle.format.specs.Written.{written}
+use Rattle.format.proofs.Written.{written_none}
 use Rattle.optimum.specs.Split.{flagged}
-use Rattle.optimum.specs.Lists.{inside-more, inside-same}
+use Rattle.optimum.proofs.ListsLaws.{inside-more, inside-same}
 use Rattle.optimum.proofs.lists.list_inside.Statement.{statement}
 use Rattle.optimum.proofs.lists.list_inside.Tie as tie
 

@@ -6,8 +6,8 @@ use Rattle.labeling.specs.Points.{Choice}
 use Rattle.recurrence.specs.Recurrence.{Point}
 use Rattle.orders.specs.Arrays.{heights_of, position_at}
 use Rattle.optimum.specs.Split.{flagged, outside_down, outside_positions, Listed}
-use Rattle.optimum.specs.Outside.{down-inside, down-outside}
-use Rattle.optimum.specs.Lists.{listed-none, listed_more, listed-whole}
+use Rattle.optimum.proofs.Outside.{down-inside, down-outside}
+use Rattle.optimum.proofs.ListsLaws.{listed-none, listed_more, listed-whole}
 use Rattle.optimum.proofs.lists.list_outside.Statement.{statement}
 use Rattle.optimum.proofs.lists.list_outside.Tie as tie
 

@@ -4,9 +4,9 @@
 use Rattle.std.proofs.Common.{◌≡◌, ℕ, ◌+◌, ◌-◌, ◌*◌, ◌<◌, ◌∙◌, arith, rules}
 use Rattle.orders.specs.Arrays.{heights_of}
 use Rattle.optimum.specs.Table.{Opened}
-use Rattle.optimum.specs.Memo.{kept_refl, kept_trans}
-use Rattle.optimum.specs.Steps.{open-below-few, open-candidate}
-use Rattle.optimum.specs.Recovery.{flagged-zero, cut_opened, cut_low, cut_high, cut-flagged}
+use Rattle.optimum.proofs.Memo.{kept_refl, kept_trans}
+use Rattle.optimum.proofs.Steps.{open-below-few, open-candidate}
+use Rattle.optimum.proofs.RecoveryLaws.{flagged-zero, cut_opened, cut_low, cut_high, cut-flagged}
 use borrow.Fn.Kinds.{In}
 use borrow.Fn.PlainCycle.{Measures, is, falls, and}
 use Rattle.optimum.proofs.recovery.cut.Reads as cut

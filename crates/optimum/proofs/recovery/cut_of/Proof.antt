@@ -1,6 +1,6 @@
 -- `optimum::recovery::cut_of` meets its contract: the entry is noted, with its cut. Assumes nothing.
 use Rattle.std.proofs.Common.{rules}
-use Rattle.optimum.specs.Memo.{memo-cut, memo-noted}
+use Rattle.optimum.proofs.Memo.{memo-cut, memo-noted}
 use Rattle.optimum.proofs.recovery.cut_of.Statement.{statement}
 use Rattle.optimum.proofs.recovery.cut_of.Tie as tie
 

@@ -2,8 +2,8 @@
 use Rattle.std.proofs.Common.{◌-◌, arith, rules}
 use Rattle.orders.specs.Arrays.{heights_of}
 use Rattle.optimum.specs.Table.{Taking}
-use Rattle.optimum.specs.Steps.{ends-small}
-use Rattle.optimum.specs.Recovery.{taking-first, taking-next, taking-last}
+use Rattle.optimum.proofs.Steps.{ends-small}
+use Rattle.optimum.proofs.RecoveryLaws.{taking-first, taking-next, taking-last}
 use Rattle.optimum.proofs.recovery.flag_down.Statement.{statement}
 use Rattle.optimum.proofs.recovery.flag_down.Tie as tie
 

@@ -1,5 +1,5 @@
 -- `optimum::recovery::flag_taken` meets its contract. Assumes nothing.
-use Rattle.optimum.specs.Recovery.{flagged-low, flagged-high, flagged-taken}
+use Rattle.optimum.proofs.RecoveryLaws.{flagged-low, flagged-high, flagged-taken}
 use Rattle.std.proofs.Common.{rules}
 use Rattle.optimum.proofs.recovery.flag_taken.Statement.{statement}
 use Rattle.optimum.proofs.recovery.flag_taken.Tie as tie

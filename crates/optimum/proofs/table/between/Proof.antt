@@ -1,6 +1,6 @@
 -- `optimum::table::between` meets its contract, by the law of the distance that wraps round. Assumes nothing.
 use Rattle.std.proofs.Common.{arith, rules}
-use Rattle.optimum.specs.Steps.{between-wrapped}
+use Rattle.optimum.proofs.Steps.{between-wrapped}
 use Rattle.optimum.proofs.table.between.Statement.{statement}
 use Rattle.optimum.proofs.table.between.Tie as tie
 

@@ -1,5 +1,5 @@
 -- `optimum::table::place` meets its contract, by the two tables of numbers. Assumes nothing.
-use Rattle.optimum.specs.Steps.{place-sum}
+use Rattle.optimum.proofs.Steps.{place-sum}
 use Rattle.std.proofs.Common.{arith, rules}
 use Rattle.optimum.proofs.table.place.Statement.{statement}
 use Rattle.optimum.proofs.table.place.Tie as tie

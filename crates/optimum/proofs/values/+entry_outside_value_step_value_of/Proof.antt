@@ -4,10 +4,10 @@ use Rattle.std.proofs.Common.{◌≡◌, ℕ, ◌+◌, ◌-◌, ◌*◌, ◌<◌
 use borrow.Author.Tests.{not-true, not-false}
 use Rattle.orders.specs.Arrays.{heights_of}
 use Rattle.optimum.specs.Table.{Running, Kept, Asked, Valued, Opened}
-use Rattle.optimum.specs.Steps.{ends-small, open-below-few, opened, open-small, open-candidate, open-weight}
-use Rattle.optimum.specs.Steps.{ready-low, ready-high, low_value, high_value, low_small, high_small, out-cut, out_none}
-use Rattle.optimum.specs.Running.{step_skip, step-safe, step-stop, step-on, settled-none, running-first, running-prev, running-last}
-use Rattle.optimum.specs.Memo.{memo-value, memo-stored, valued-after, kept_refl, kept_trans}
+use Rattle.optimum.proofs.Steps.{ends-small, open-below-few, opened, open-small, open-candidate, open-weight}
+use Rattle.optimum.proofs.Steps.{ready-low, ready-high, low_value, high_value, low_small, high_small, out-cut, out_none}
+use Rattle.optimum.proofs.Running.{step_skip, step-safe, step-stop, step-on, settled-none, running-first, running-prev, running-last}
+use Rattle.optimum.proofs.Memo.{memo-value, memo-stored, valued-after, kept_refl, kept_trans}
 use borrow.Fn.Kinds.{In}
 use borrow.Fn.PlainCycle.{Measures, is, falls, and}
 use Rattle.optimum.proofs.values.entry.Reads as entry

@@ -1,6 +1,6 @@
 -- `optimum::values::better` meets its contract. Assumes nothing.
 use Rattle.std.proofs.Common.{sym}
-use Rattle.optimum.specs.Running.{better-more, better-rest}
+use Rattle.optimum.proofs.Running.{better-more, better-rest}
 use Rattle.optimum.proofs.values.better.Statement.{statement}
 use Rattle.optimum.proofs.values.better.Tie as tie
 

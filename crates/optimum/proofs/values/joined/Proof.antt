@@ -1,6 +1,6 @@
 -- `optimum::values::joined` meets its contract, by cases. Assumes nothing.
 use Rattle.std.proofs.Common.{arith, rules}
-use Rattle.recurrence.specs.Joins.{joins-low, joins-high, joins-both}
+use Rattle.recurrence.proofs.Joins.{joins-low, joins-high, joins-both}
 use Rattle.optimum.proofs.values.joined.Statement.{statement}
 use Rattle.optimum.proofs.values.joined.Tie as tie
 

@@ -1,7 +1,8 @@
 -- `optimum::values::unreached` meets its contract: the label reaches over none of the points passed. Assumes nothing.
 use Rattle.std.proofs.Common.{suc, ◌-◌, ◌≤◌, sym, ◌∙◌, arith, rules}
 use Rattle.orders.specs.Arrays.{heights_of}
-use Rattle.optimum.specs.Conflicts.{Climbing, climbing-first, climbing-below, climbing-reached, climbing-next, climbing-last}
+use Rattle.optimum.specs.Conflicts.{Climbing}
+use Rattle.optimum.proofs.ConflictsLaws.{climbing-first, climbing-below, climbing-reached, climbing-next, climbing-last}
 use Rattle.optimum.proofs.values.unreached.Statement.{statement}
 use Rattle.optimum.proofs.values.unreached.Tie as tie
 

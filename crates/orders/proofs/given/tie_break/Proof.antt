@@ -1,7 +1,7 @@
 -- `orders::given::tie_break` meets its contract. Assumes nothing.
 use borrow.Author.Rules.{rules}
 use native.Mathlib.Omega.{arith}
-use Rattle.recurrence.specs.TieBreak.{tie-shifted, tie-most}
+use Rattle.recurrence.proofs.TieBreak.{tie-shifted, tie-most}
 use Rattle.orders.proofs.given.tie_break.Statement.{statement}
 use Rattle.orders.proofs.given.tie_break.Tie as tie
 

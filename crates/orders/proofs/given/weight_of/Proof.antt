@@ -1,7 +1,7 @@
 -- `orders::given::weight_of` meets its contract. Assumes nothing.
 use borrow.Author.Rules.{rules}
 use native.Mathlib.Omega.{arith}
-use Rattle.orders.specs.Given.{weight_is}
+use Rattle.orders.proofs.GivenLaws.{weight_is}
 use Rattle.orders.proofs.given.weight_of.Statement.{statement}
 use Rattle.orders.proofs.given.weight_of.Tie as tie
 

@@ -4,8 +4,10 @@ use Prim.Native.Nat.{ℕ, ◌≤◌, ◌<◌, ◌+◌, ◌-◌}
 use lib.ListN.{get_or}
 use Rattle.orders.specs.Layout.{first_position}
 use Rattle.format.specs.RankList.{rank_in, lent}
-use Rattle.orders.specs.Given.{weight_of, weight_is, permitted, permission}
-use Rattle.orders.specs.GivenCells.{GivenCells, given-none, given-more}
+use Rattle.orders.specs.Given.{weight_of, permitted, permission}
+use Rattle.orders.proofs.GivenLaws.{weight_is}
+use Rattle.orders.specs.GivenCells.{GivenCells}
+use Rattle.orders.proofs.GivenCells.{given-none, given-more}
 use native.Mathlib.Omega.{arith}
 use borrow.Author.Rules.{rules}
 use Rattle.orders.proofs.given.write_given.Statement.{statement}

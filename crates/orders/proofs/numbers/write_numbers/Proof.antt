@@ -2,7 +2,8 @@
 use mathlib.Core.Path.{◌≡◌, ◌∙◌, ap}
 use lib.ListN.{length}
 use Rattle.orders.specs.Layout.{array_cells}
-use Rattle.orders.specs.Numbers.{blank_of, counted, blank-long, counted-long, numbers-made}
+use Rattle.orders.specs.Numbers.{blank_of, counted}
+use Rattle.orders.proofs.NumbersLaws.{blank-long, counted-long, numbers-made}
 use borrow.Author.Rules.{rules}
 use Rattle.orders.proofs.numbers.write_numbers.Statement.{statement}
 use Rattle.orders.proofs.numbers.write_numbers.Tie as tie

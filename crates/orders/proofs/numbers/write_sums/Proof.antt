@@ -4,9 +4,10 @@
 use mathlib.Core.Path.{◌≡◌, refl}
 use Prim.Native.Nat.{◌≤◌, ◌+◌, ◌-◌}
 use Rattle.orders.specs.Layout.{sum_cells, triangular_field, tetrahedral_field}
-use Rattle.orders.specs.Cells.{BothWritten, both-none, both-more}
+use Rattle.orders.specs.Cells.{BothWritten}
+use Rattle.orders.proofs.Cells.{both-none, both-more}
 use Rattle.orders.specs.Sums.{tri, tet}
-use Rattle.orders.specs.Sums.{tri-next, tet-next, tri-most, tet-most}
+use Rattle.orders.proofs.Sums.{tri-next, tet-next, tri-most, tet-most}
 use native.Mathlib.Omega.{arith}
 use borrow.Author.Rules.{rules}
 use Rattle.orders.proofs.numbers.write_sums.Statement.{statement}

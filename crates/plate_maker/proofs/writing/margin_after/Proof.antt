@@ -2,7 +2,7 @@
 use borrow.Author.Rules.{rules}
 use borrow.Author.Tests.{eq-eqb, ne_eqb}
 use native.Mathlib.Omega.{arith}
-use Rattle.labeling.specs.Margin.{next-most}
+use Rattle.labeling.proofs.Margin.{next-most}
 use Rattle.format.specs.Sheet.{points_of}
 use Rattle.plate_maker.specs.Writing.{margin_after}
 use Rattle.plate_maker.proofs.writing.margin_after.Statement.{statement}

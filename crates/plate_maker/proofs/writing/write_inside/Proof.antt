@@ -4,7 +4,7 @@ use mathlib.Core.Path.{refl}
 use Prim.Native.Nat.{◌+◌}
 use lib.ListN.{length}
 use native.Mathlib.Omega.{arith}
-use Rattle.format.specs.Written.{written-front, written-fits}
+use Rattle.format.proofs.Written.{written-front, written-fits}
 use Rattle.plate_maker.proofs.writing.write_inside.Statement.{statement}
 use Rattle.plate_maker.proofs.writing.write_inside.Tie as tie
 

@@ -6,7 +6,7 @@ use native.Mathlib.Omega.{arith}
 use Rattle.labeling.specs.Points.{placed}
 use Rattle.format.specs.Sheet.{points_of}
 use Rattle.format.specs.Plate.{pairs}
-use Rattle.format.specs.Written.{written-front}
+use Rattle.format.proofs.Written.{written-front}
 use Rattle.plate_maker.specs.Writing.{section_of}
 use Rattle.plate_maker.proofs.writing.write_outside.Statement.{statement}
 use Rattle.plate_maker.proofs.writing.write_outside.Tie as tie

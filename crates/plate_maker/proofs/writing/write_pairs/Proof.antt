@@ -11,7 +11,7 @@ use Rattle.labeling.specs.Points.{Points, placed}
 use Rattle.format.specs.Sheet.{points_of}
 use Rattle.format.specs.Plate.{pairs}
 use Rattle.plate_maker.specs.Writing.{SoFar}
-use Rattle.plate_maker.specs.Pairs.{so-far-none, so_far_more, so-far-whole}
+use Rattle.plate_maker.proofs.Pairs.{so-far-none, so_far_more, so-far-whole}
 use Rattle.plate_maker.proofs.writing.write_pairs.Statement.{statement}
 use Rattle.plate_maker.proofs.writing.write_pairs.Tie as tie
 

@@ -6,9 +6,10 @@ use Prim.Native.Nat.{ℕ, ◌+◌}
 use lib.ListN.{length}
 use native.Mathlib.Omega.{arith}
 use Rattle.format.specs.Sheet.{points_of}
-use Rattle.format.specs.Written.{written, written-fits}
+use Rattle.format.specs.Written.{written}
+use Rattle.format.proofs.Written.{written-fits}
 use Rattle.plate_maker.specs.Writing.{section_of}
-use Rattle.plate_maker.specs.Pairs.{lists_length, plate-written}
+use Rattle.plate_maker.proofs.Pairs.{lists_length, plate-written}
 use Rattle.plate_maker.proofs.writing.write_plate.Statement.{statement}
 use Rattle.plate_maker.proofs.writing.write_plate.Tie as tie
 

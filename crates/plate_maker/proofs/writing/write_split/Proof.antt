@@ -4,8 +4,9 @@ use mathlib.Core.List.{List}
 use Prim.Native.Nat.{ℕ}
 use native.Mathlib.Omega.{arith}
 use Rattle.labeling.specs.Points.{Choice}
-use Rattle.format.specs.Accepted.{Accepted, accepted}
-use Rattle.plate_maker.specs.PlateOfLists.{inside-fits, outside-fits, inside-listed, outside-listed, both-lengths, choice-written}
+use Rattle.format.specs.Accepted.{Accepted}
+use Rattle.format.proofs.Accepted.{accepted}
+use Rattle.plate_maker.proofs.PlateOfLists.{inside-fits, outside-fits, inside-listed, outside-listed, both-lengths, choice-written}
 use Rattle.plate_maker.proofs.writing.write_split.Statement.{statement}
 use Rattle.plate_maker.proofs.writing.write_split.Tie as tie
 

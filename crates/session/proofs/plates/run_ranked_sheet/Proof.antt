@@ -1,6 +1,6 @@
 -- `session::plates::run_ranked_sheet` meets its contract. Assumes nothing.
 use borrow.Author.Rules.{rules}
-use Rattle.plate_maker.specs.MakingLaws.{made-within}
+use Rattle.plate_maker.proofs.MakingLaws.{made-within}
 use Rattle.session.proofs.plates.run_ranked_sheet.Statement.{statement}
 use Rattle.session.proofs.plates.run_ranked_sheet.Tie as tie
 

@@ -1,0 +1,16 @@
+pub mod ChoosingLaws
+pub mod Prepared
+pub mod LimitsLaws
+pub mod SameHeights
+pub mod Places
+pub mod Entries
+pub mod ConflictsLaws
+pub mod Memo
+pub mod Steps
+pub mod Running
+pub mod RecoveryLaws
+pub mod ByPosition
+pub mod Split
+pub mod ListsLaws
+pub mod Outside
+pub mod Chosen

@@ -1,0 +1,13 @@
+pub mod BothOrders
+pub mod OrderedCells
+pub mod GivenLaws
+pub mod Words
+pub mod Sums
+pub mod Cells
+pub mod RanksLaws
+pub mod Orders
+pub mod NumbersLaws
+pub mod GivenCells
+pub mod HeightOrder
+pub mod Fits
+pub mod RightOrder

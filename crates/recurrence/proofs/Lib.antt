@@ -1,0 +1,13 @@
+pub mod Optimum
+pub mod Positions
+pub mod Safe
+pub mod Comparisons
+pub mod TieBreak
+pub mod RecurrenceTests
+pub mod Joins
+pub mod Slabs
+pub mod NoBetter
+pub mod Recovered
+pub mod Reached
+pub mod Totals
+pub mod Sums
