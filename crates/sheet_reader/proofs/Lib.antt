@@ -1,5 +1,3 @@
-mod Branches
 mod Laws
-mod ReaderParts
 pub mod SheetAnswers
 pub mod PixelNumber

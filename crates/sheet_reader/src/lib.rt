@@ -120,6 +120,7 @@ fn own_pixel(sheet: &[u8], position: u8) -> bool
 }
 
 // The first no of 17 to 20 for one position and its point, 0 for none.
+#[tactic(auto, unfolding(format::specs::Sheet::point_no))]
 fn point_no(sheet: &[u8], position: u8, point: SheetPoint) -> u8
     requires { point ≡ point_at sheet.now position }
     ensures { result ≡ point_no sheet.now position }
@@ -155,6 +156,7 @@ fn points_no(sheet: &[u8]) -> u8
 }
 
 // The first no of 11 to 20, 0 for none, where `fits` answers 16.
+#[tactic(auto, unfolding(format::specs::Sheet::questions_no))]
 pub fn questions_no(sheet: &[u8], fits: bool) -> u8
     ensures { result ≡ questions_no sheet.now fits }
 {

@@ -1,5 +1,4 @@
 -- `format::two_bytes` meets its contract. Assumes nothing.
-use borrow.Author.Rules.{rules}
 use native.Mathlib.Omega.{arith}
 use lib.ListN.{get_or-eq_default}
 use Rattle.format.specs.Sheet.{two_bytes}

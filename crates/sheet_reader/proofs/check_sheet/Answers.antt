@@ -1,5 +1,4 @@
 -- `sheet_reader::check_sheet` meets its contract. Assumes nothing.
-use borrow.Author.Rules.{rules}
 use lib.Dec.{eqb}
 use lib.ListN.{length}
 use mathlib.Core.Path.{◌≡◌, sym, ap, ◌∙◌}

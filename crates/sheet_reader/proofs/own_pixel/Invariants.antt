@@ -1,14 +1,8 @@
-use borrow.Author.Rules.{rules}
-use mathlib.Core.Path.{◌≡◌, sym, ◌∙◌}
+use mathlib.Core.Path.{◌≡◌}
 use mathlib.Core.Bool.{false}
 use Prim.Native.Nat.{ℕ, ◌-◌, ◌≤◌, ◌<◌}
-use borrow.Author.Count.{below_more}
-use borrow.Author.Tests.{eq-eqb, ne_eqb}
-use native.Mathlib.Omega.{arith}
 use Rattle.format.specs.Sheet.{column, row, same_pixel}
 use Rattle.sheet_reader.specs.PixelNumber.{PixelNumber}
-use Rattle.sheet_reader.proofs.PixelNumber.{pixel-numbers}
-use Rattle.sheet_reader.proofs.Laws.{not-unlike, unlike}
 use Rattle.sheet_reader.proofs.own_pixel.Given as goal
 
 abbrev pub invariant-loop-earlier : goal.invariant-loop-earlier

@@ -1,11 +1,8 @@
 -- `format::writing::copy` meets its contract: after i turns the first i bytes are copied. Assumes nothing.
 use borrow.Author.Rules.{rules}
-use mathlib.Core.Path.{◌≡◌}
-use Prim.Native.Nat.{◌≤◌, ◌-◌}
-use lib.ListN.{length, take, length-set}
+use lib.ListN.{length-set}
 use native.Mathlib.Omega.{arith}
-use Rattle.format.specs.Written.{written}
-use Rattle.format.proofs.Written.{written_none, copied_more, copied-whole}
+use Rattle.format.proofs.Written.{written_none, copied_more}
 use Rattle.format.proofs.writing.copy.Goals as goal
 
 pub loop-i-init : goal.loop-i-init
@@ -19,9 +16,3 @@ loop-i-preserved c =
       simp length-set (search rules),
       copied_more a.output.now a.at a.bytes.now l.output l.i (omega arith) (omega arith) l.invariant.2,
     )
-
-pub returns : goal.returns
-returns c =
-    let a = c.args in
-    let l = c.loop-i in
-    copied-whole a.output.now a.at a.bytes.now l.output l.i (omega arith) l.invariant.2

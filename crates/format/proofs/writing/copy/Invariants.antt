@@ -1,10 +1,7 @@
-use borrow.Author.Rules.{rules}
 use mathlib.Core.Path.{◌≡◌}
 use Prim.Native.Nat.{◌≤◌, ◌-◌}
-use lib.ListN.{length, take, length-set}
-use native.Mathlib.Omega.{arith}
+use lib.ListN.{length, take}
 use Rattle.format.specs.Written.{written}
-use Rattle.format.proofs.Written.{written_none, copied_more, copied-whole}
 use Rattle.format.proofs.writing.copy.Given as goal
 
 abbrev pub invariant-loop-i : goal.invariant-loop-i

@@ -1,5 +1,4 @@
 -- `format::writing::copy_to` meets its contract. Assumes nothing.
-use borrow.Author.Rules.{rules}
 use mathlib.Core.Path.{sym, ◌∙◌}
 use native.Mathlib.Omega.{arith}
 use Rattle.format.proofs.Written.{written-fits, written-no-room}
