@@ -1,0 +1,62 @@
+-- `optimum::limits::high` meets its contract: none that overlaps i is less than j. Assumes nothing.
+use Rattle.std.proofs.Common.{◌≡◌, ◌+◌, ◌-◌, ◌<◌, ◌≤◌, sym, ◌∙◌, arith, rules}
+use Rattle.recurrence.specs.Comparisons.{overlaps_above}
+use Rattle.orders.specs.Arrays.{heights_of}
+use Rattle.optimum.specs.Limits.{AtLeast}
+use Rattle.optimum.proofs.LimitsLaws.{high-start, high-ends, high-found, high-next, high-none}
+use Rattle.optimum.proofs.limits.high.Goals as goal
+
+pub column_at-column-requires : goal.column_at-column-requires
+column_at-column-requires c = omega (arith, c.requires.0.few, c.requires.1.high)
+
+pub overflow_add-j : goal.overflow_add-j
+overflow_add-j c = omega (arith, c.requires.0.few, c.requires.1.high)
+
+pub loop-j-init : goal.loop-j-init
+loop-j-init c = (
+  omega (arith, c.requires.0.few, c.point_count-n.ensures.0),
+  c.point_count-n.ensures.0,
+  omega arith,
+  omega (arith, c.requires.1.high, c.point_count-n.ensures.0),
+  c.column_at-column.ensures.0,
+  omega (arith, c.column_at-column.ensures.0, c.label_width.ensures.0),
+  high-start _ _,
+)
+
+pub returns-then-label_below : goal.returns-then-label_below
+returns-then-label_below c =
+    let x =
+    high-ends c.requires.0.sorted _
+    c.requires.1 (omega arith) (omega arith)
+    c.loop-j.invariant.6 (sym c.label_below.ensures ∙ c.if-label_below.true) in
+    (omega (arith, x), omega arith)
+
+pub returns-then-column_within : goal.returns-then-column_within
+returns-then-column_within c = (
+  high-found c.requires.0.sorted
+      _ c.requires.1
+      (omega arith) (omega arith) c.loop-j.invariant.6
+      (sym c.label_below.ensures ∙ c.if-label_below.false)
+      c.loop-j.invariant.4 c.loop-j.invariant.5
+      (sym c.column_within.ensures ∙ c.if-column_within.true),
+  omega arith,
+)
+
+pub loop-j-preserved : goal.loop-j-preserved
+loop-j-preserved c = (
+  c.loop-j.invariant.0,
+  c.loop-j.invariant.1,
+  omega arith,
+  omega arith,
+  c.loop-j.invariant.4,
+  c.loop-j.invariant.5,
+  high-next c.requires.0.sorted
+      _ c.requires.1
+      (omega arith) (omega arith) c.loop-j.invariant.6
+      (sym c.label_below.ensures ∙ c.if-label_below.false)
+      c.loop-j.invariant.4 c.loop-j.invariant.5
+      (sym c.column_within.ensures ∙ c.if-column_within.false),
+)
+
+pub returns : goal.returns
+returns c = let x = high-none _ _ _ (omega arith) c.loop-j.invariant.6 in (omega (arith, x), omega arith)

@@ -1,0 +1,60 @@
+-- `optimum::limits::top` meets its contract: none that reaches over i is more than j. Assumes nothing.
+use Rattle.std.proofs.Common.{◌≡◌, ◌+◌, ◌<◌, sym, ◌∙◌, arith, rules}
+use Rattle.recurrence.specs.Recurrence.{reaches_over}
+use Rattle.orders.specs.Arrays.{heights_of}
+use Rattle.orders.specs.Layout.{field_cells}
+use Rattle.optimum.specs.Limits.{AtMost}
+use Rattle.optimum.proofs.LimitsLaws.{top_start, top-ends, top-found, top-next, top-none}
+use Rattle.optimum.proofs.limits.top.Goals as goal
+
+pub column_at-column-requires : goal.column_at-column-requires
+column_at-column-requires c = omega (arith, c.requires.0.few, c.requires.1.high)
+
+pub overflow_sub-j : goal.overflow_sub-j
+overflow_sub-j c = omega (arith, c.requires.1.low)
+
+pub loop-j-init : goal.loop-j-init
+loop-j-init c = (
+  omega (arith, c.requires.0.few, c.requires.1.high),
+  omega (arith, c.requires.1.low),
+  omega (arith, c.column_at-column.ensures.0),
+  omega (arith, c.column_at-column.ensures.0, c.label_width.ensures.0),
+  omega (arith, c.column_at-column.ensures.1),
+  top_start _ _,
+)
+
+pub returns-then-label_below : goal.returns-then-label_below
+returns-then-label_below c = (
+  top-ends c.requires.0.sorted _ c.requires.1
+      (omega arith) (omega arith) c.loop-j.invariant.5 (sym c.label_below.ensures ∙ c.if-label_below.true),
+  omega arith,
+)
+
+pub returns-then-column_within : goal.returns-then-column_within
+returns-then-column_within c = (
+  top-found c.requires.0.sorted
+      _ c.requires.1
+      (omega arith) (omega arith) c.loop-j.invariant.5
+      (sym c.label_below.ensures ∙ c.if-label_below.false)
+      c.loop-j.invariant.2 c.loop-j.invariant.3
+      (sym c.column_within.ensures ∙ c.if-column_within.true),
+  omega arith,
+)
+
+pub loop-j-preserved : goal.loop-j-preserved
+loop-j-preserved c = (
+  omega arith,
+  omega arith,
+  c.loop-j.invariant.2,
+  c.loop-j.invariant.3,
+  c.loop-j.invariant.4,
+  top-next c.requires.0.sorted
+      _ c.requires.1
+      (omega arith) (omega arith) c.loop-j.invariant.5
+      (sym c.label_below.ensures ∙ c.if-label_below.false)
+      c.loop-j.invariant.2 c.loop-j.invariant.3
+      (sym c.column_within.ensures ∙ c.if-column_within.false),
+)
+
+pub returns : goal.returns
+returns c = let e : c.loop-j.j ≡ 0 = omega arith in (top-none _ _ (rw e at c.loop-j.invariant.5), omega arith)

@@ -1,0 +1,11 @@
+use Rattle.std.proofs.Common.{suc, ◌-◌, ◌≤◌, sym, ◌∙◌, arith, rules}
+use Rattle.orders.specs.Arrays.{heights_of}
+use Rattle.optimum.specs.Conflicts.{Climbing}
+use Rattle.optimum.proofs.ConflictsLaws.{climbing-first, climbing-below, climbing-reached, climbing-next, climbing-last}
+use Rattle.optimum.proofs.values.unreached.Given as goal
+
+abbrev pub invariant-loop-y : goal.invariant-loop-y
+invariant-loop-y l = Climbing (heights_of l.heights) l.p l.b l.y
+
+abbrev pub decreases-loop-y : goal.decreases-loop-y
+decreases-loop-y l = l.b - l.y
