@@ -1,7 +1,7 @@
 -- Top and high of a point: how loops find them, and that writing them leaves the points as they are. Assumes nothing.
-use Rattle.std.specs.Prelude.{◌≡◌, ℕ, ◌+◌, ◌-◌, ◌<◌, ◌≤◌, Bool, ◌&&◌, List, length, nat_le, nat_lt, slice_index}
+use Rattle.std.specs.Prelude.{◌≡◌, ℕ, ◌+◌, ◌<◌, ◌≤◌, Bool, ◌&&◌, List, length, nat_le, nat_lt, slice_index}
 use Rattle.recurrence.specs.Recurrence.{Heights, Point, Sorted}
-use Rattle.recurrence.specs.Comparisons.{least, Passes, high_of, top_of}
+use Rattle.recurrence.specs.Comparisons.{Passes, high_of, top_of}
 use Rattle.orders.specs.Arrays.{heights_of}
 use Rattle.orders.specs.Layout.{top_field, high_field, triangular_field}
 use Rattle.orders.specs.Layout.{array_cells, first_top, first_high}

@@ -1,5 +1,5 @@
 -- What the table holds, and what the functions over it ask and leave: definitions. Assumes nothing.
-use Rattle.std.specs.Prelude.{◌≡◌, ℕ, suc, ◌+◌, ◌-◌, ◌*◌, ◌<◌, ◌≤◌, max, Bool, true, false, cond, ◌&&◌, List, length, set, ◌≢◌, nat_le, nat_lt, slice_index, slice_set}
+use Rattle.std.specs.Prelude.{◌≡◌, ℕ, suc, ◌+◌, ◌-◌, ◌*◌, ◌<◌, ◌≤◌, max, Bool, true, false, cond, ◌&&◌, List, length, ◌≢◌, nat_le, nat_lt, slice_index, slice_set}
 use Rattle.recurrence.specs.Recurrence.{Heights, Point, between, value, join, recovered}
 use Rattle.recurrence.specs.Recovered.{TakesDown}
 use Rattle.orders.specs.Arrays.{heights_of}

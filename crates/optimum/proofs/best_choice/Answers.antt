@@ -1,5 +1,5 @@
 -- `optimum::best_choice` meets its contract. Assumes nothing.
-use Rattle.std.proofs.Common.{sym, ◌∙◌, arith, rules}
+use Rattle.std.proofs.Common.{sym, ◌∙◌, arith}
 use Rattle.format.proofs.Accepted.{none-sheet}
 use Rattle.format.proofs.MakingQuestions.{none-asked}
 use Rattle.optimum.proofs.Chosen.{refused-choosing, chosen-choosing}

@@ -1,6 +1,4 @@
-use borrow.Author.Fill.{fill_more}
-use Rattle.std.proofs.Common.{◌≡◌, ◌-◌, ◌≤◌, ◌++◌, length, drop, set, replicate, ap, ◌∙◌, append-nil, arith, length-set, rules}
-use lib.Seq.{drop-length}
+use Rattle.std.proofs.Common.{◌≡◌, ◌-◌, ◌≤◌, ◌++◌, length, drop, replicate}
 use Rattle.optimum.proofs.choosing.clear.Given as goal
 
 abbrev pub invariant-loop-i : goal.invariant-loop-i

@@ -1,5 +1,5 @@
 -- `optimum::choosing::solve` meets its contract, by the value and the recovery of all points. Assumes nothing.
-use Rattle.std.proofs.Common.{◌∙◌, arith, rules}
+use Rattle.std.proofs.Common.{◌∙◌, arith}
 use Rattle.optimum.proofs.Memo.{memo-none}
 use Rattle.optimum.proofs.RecoveryLaws.{all-ready, all_none, all-solved}
 use Rattle.optimum.proofs.choosing.solve.Goals as goal

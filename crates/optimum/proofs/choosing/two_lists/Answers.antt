@@ -1,5 +1,5 @@
 -- `optimum::choosing::two_lists` meets its contract: each list is written into zeros. Assumes nothing.
-use Rattle.std.proofs.Common.{refl, ◌∙◌, arith, rules}
+use Rattle.std.proofs.Common.{refl, ◌∙◌, arith}
 use Rattle.orders.specs.Arrays.{heights_of, position_at}
 use Rattle.optimum.specs.Split.{flagged}
 use Rattle.optimum.proofs.ListsLaws.{inside-few, down-few, written-padded}

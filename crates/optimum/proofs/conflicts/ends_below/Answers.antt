@@ -1,6 +1,6 @@
 -- `optimum::conflicts::ends_below` meets its contract: the tests in turn. Assumes nothing.
 use Rattle.optimum.proofs.ConflictsLaws.{ends-boundary, ends-point}
-use Rattle.std.proofs.Common.{arith, rules}
+use Rattle.std.proofs.Common.{arith}
 use Rattle.optimum.proofs.conflicts.ends_below.Goals as goal
 
 pub returns-then-point_count-b : goal.returns-then-point_count-b

@@ -1,7 +1,6 @@
 -- `optimum::conflicts::overlaps` meets its contract: the tests in turn. Assumes nothing.
-use borrow.Author.Tests.{not-true, not-false}
 use Rattle.optimum.proofs.ConflictsLaws.{overlaps-not, overlaps-rest}
-use Rattle.std.proofs.Common.{sym, ◌∙◌, rules}
+use Rattle.std.proofs.Common.{sym, ◌∙◌}
 use Rattle.optimum.proofs.conflicts.overlaps.Goals as goal
 
 pub returns-then-not-stretches_overlap : goal.returns-then-not-stretches_overlap

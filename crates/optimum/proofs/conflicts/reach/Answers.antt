@@ -1,6 +1,6 @@
 -- `optimum::conflicts::reach` meets its contract, by the topmost label. Assumes nothing.
 use Rattle.optimum.proofs.ConflictsLaws.{reach-newer, reach-nobody, reach-older, reach-none}
-use Rattle.std.proofs.Common.{sym, ◌∙◌, rules}
+use Rattle.std.proofs.Common.{sym, ◌∙◌}
 use Rattle.optimum.proofs.conflicts.reach.Goals as goal
 
 pub returns-then-top-slab : goal.returns-then-top-slab

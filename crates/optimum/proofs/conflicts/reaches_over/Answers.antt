@@ -1,6 +1,6 @@
 -- `optimum::conflicts::reaches_over` meets its contract: the tests in turn. Assumes nothing.
 use Rattle.optimum.proofs.ConflictsLaws.{reaches-below, reaches-left, reaches-rest}
-use Rattle.std.proofs.Common.{arith, rules}
+use Rattle.std.proofs.Common.{arith}
 use Rattle.optimum.proofs.conflicts.reaches_over.Goals as goal
 
 pub returns-then-row_at-label_height : goal.returns-then-row_at-label_height

@@ -1,6 +1,6 @@
 -- `optimum::conflicts::rows_differ` meets its contract: the tests in turn. Assumes nothing.
 use Rattle.optimum.proofs.ConflictsLaws.{differ-boundary, differ-point}
-use Rattle.std.proofs.Common.{arith, rules}
+use Rattle.std.proofs.Common.{arith}
 use Rattle.optimum.proofs.conflicts.rows_differ.Goals as goal
 
 pub returns-then-point_count-b : goal.returns-then-point_count-b

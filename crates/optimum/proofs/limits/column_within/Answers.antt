@@ -1,6 +1,5 @@
 -- `optimum::limits::column_within` meets its contract. Assumes nothing.
 use Rattle.optimum.specs.Limits.{column_within}
-use Rattle.std.proofs.Common.{rules}
 use Rattle.optimum.proofs.limits.column_within.Goals as goal
 
 pub returns : goal.returns

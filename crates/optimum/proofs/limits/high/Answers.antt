@@ -1,16 +1,7 @@
 -- `optimum::limits::high` meets its contract: none that overlaps i is less than j. Assumes nothing.
-use Rattle.std.proofs.Common.{◌≡◌, ◌+◌, ◌-◌, ◌<◌, ◌≤◌, sym, ◌∙◌, arith, rules}
-use Rattle.recurrence.specs.Comparisons.{overlaps_above}
-use Rattle.orders.specs.Arrays.{heights_of}
-use Rattle.optimum.specs.Limits.{AtLeast}
+use Rattle.std.proofs.Common.{sym, ◌∙◌, arith}
 use Rattle.optimum.proofs.LimitsLaws.{high-start, high-ends, high-found, high-next, high-none}
 use Rattle.optimum.proofs.limits.high.Goals as goal
-
-pub column_at-column-requires : goal.column_at-column-requires
-column_at-column-requires c = omega (arith, c.requires.0.few, c.requires.1.high)
-
-pub overflow_add-j : goal.overflow_add-j
-overflow_add-j c = omega (arith, c.requires.0.few, c.requires.1.high)
 
 pub loop-j-init : goal.loop-j-init
 loop-j-init c = (

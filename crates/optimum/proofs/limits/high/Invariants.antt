@@ -1,8 +1,7 @@
-use Rattle.std.proofs.Common.{◌≡◌, ◌+◌, ◌-◌, ◌<◌, ◌≤◌, sym, ◌∙◌, arith, rules}
+use Rattle.std.proofs.Common.{◌≡◌, ◌+◌, ◌-◌, ◌<◌, ◌≤◌}
 use Rattle.recurrence.specs.Comparisons.{overlaps_above}
 use Rattle.orders.specs.Arrays.{heights_of}
 use Rattle.optimum.specs.Limits.{AtLeast}
-use Rattle.optimum.proofs.LimitsLaws.{high-start, high-ends, high-found, high-next, high-none}
 use Rattle.optimum.proofs.limits.high.Given as goal
 
 abbrev pub invariant-loop-j : goal.invariant-loop-j

@@ -1,6 +1,5 @@
 -- `optimum::limits::label_below` meets its contract. Assumes nothing.
 use Rattle.optimum.specs.Limits.{label_below}
-use Rattle.std.proofs.Common.{rules}
 use Rattle.optimum.proofs.limits.label_below.Goals as goal
 
 pub returns : goal.returns

@@ -1,17 +1,7 @@
 -- `optimum::limits::top` meets its contract: none that reaches over i is more than j. Assumes nothing.
-use Rattle.std.proofs.Common.{◌≡◌, ◌+◌, ◌<◌, sym, ◌∙◌, arith, rules}
-use Rattle.recurrence.specs.Recurrence.{reaches_over}
-use Rattle.orders.specs.Arrays.{heights_of}
-use Rattle.orders.specs.Layout.{field_cells}
-use Rattle.optimum.specs.Limits.{AtMost}
+use Rattle.std.proofs.Common.{◌≡◌, sym, ◌∙◌, arith}
 use Rattle.optimum.proofs.LimitsLaws.{top_start, top-ends, top-found, top-next, top-none}
 use Rattle.optimum.proofs.limits.top.Goals as goal
-
-pub column_at-column-requires : goal.column_at-column-requires
-column_at-column-requires c = omega (arith, c.requires.0.few, c.requires.1.high)
-
-pub overflow_sub-j : goal.overflow_sub-j
-overflow_sub-j c = omega (arith, c.requires.1.low)
 
 pub loop-j-init : goal.loop-j-init
 loop-j-init c = (

@@ -1,9 +1,8 @@
-use Rattle.std.proofs.Common.{◌≡◌, ◌+◌, ◌<◌, sym, ◌∙◌, arith, rules}
+use Rattle.std.proofs.Common.{◌≡◌, ◌+◌, ◌<◌}
 use Rattle.recurrence.specs.Recurrence.{reaches_over}
 use Rattle.orders.specs.Arrays.{heights_of}
 use Rattle.orders.specs.Layout.{field_cells}
 use Rattle.optimum.specs.Limits.{AtMost}
-use Rattle.optimum.proofs.LimitsLaws.{top_start, top-ends, top-found, top-next, top-none}
 use Rattle.optimum.proofs.limits.top.Given as goal
 
 abbrev pub invariant-loop-j : goal.invariant-loop-j

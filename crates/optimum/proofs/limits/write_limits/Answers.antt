@@ -1,12 +1,12 @@
 -- `optimum::limits::write_limits` meets its contract: two numbers are written in each turn, and the points stay as they are.
 -- Assumes nothing.
-use Rattle.std.proofs.Common.{◌≡◌, ◌+◌, ◌-◌, ◌≤◌, ◌∙◌, arith, rules}
+use Rattle.std.proofs.Common.{◌≡◌, ◌+◌, ◌≤◌, ◌∙◌, arith}
 use Rattle.recurrence.specs.Recurrence.{Point}
 use Rattle.orders.specs.Arrays.{heights_of}
 use Rattle.optimum.specs.SameHeights.{SameHeights}
 use Rattle.optimum.proofs.SameHeights.{high_same, top-same}
-use Rattle.optimum.specs.Limits.{InOrder, LimitedTo}
-use Rattle.optimum.proofs.LimitsLaws.{limited-none, limited-more, limited, kept_same, kept-order}
+use Rattle.optimum.specs.Limits.{InOrder}
+use Rattle.optimum.proofs.LimitsLaws.{limited-more, limited, kept_same, kept-order}
 use Rattle.optimum.proofs.limits.write_limits.Goals as goal
 use Rattle.optimum.proofs.limits.write_limits.Goals.{At-loop-k, In-loop-k}
 
@@ -20,14 +20,6 @@ order c = kept-order c.loop-k.invariant.3.kept c.requires
 
 next : (c : In-loop-k) → Point (heights_of c.loop-k.heights) (c.loop-k.k + 1)
 next c = record { low = omega arith; high = omega (arith, (points c.before).n, c.loop-k.invariant.2) }
-
-pub loop-k-init : goal.loop-k-init
-loop-k-init c = (
-  omega (arith, c.point_count-n.ensures.0, c.requires.few),
-  omega arith,
-  c.point_count-n.ensures.0,
-  limited-none _,
-)
 
 pub top-topmost-requires : goal.top-topmost-requires
 top-topmost-requires c = (order (goal.at.top-topmost-requires c).At-loop-k, next (goal.at.top-topmost-requires c).In-loop-k)

@@ -1,8 +1,6 @@
-use Rattle.std.proofs.Common.{◌≡◌, ◌+◌, ◌-◌, ◌<◌, ◌≤◌, length, ap, ◌∙◌, arith, length-set, rules}
-use Rattle.recurrence.specs.Recurrence.{Point}
-use Rattle.orders.specs.Arrays.{heights_of, position_at}
+use Rattle.std.proofs.Common.{◌≡◌, ◌-◌, ◌≤◌, length}
+use Rattle.orders.specs.Arrays.{heights_of}
 use Rattle.optimum.specs.ByPosition.{CopiedTo}
-use Rattle.optimum.proofs.ByPosition.{copied_none, copied_next}
 use Rattle.optimum.proofs.lists.by_position.Given as goal
 
 abbrev pub invariant-loop-i : goal.invariant-loop-i

@@ -1,8 +1,7 @@
 -- `optimum::lists::list_inside` meets its contract: the inside positions below `next` are written. Assumes nothing.
-use Rattle.std.proofs.Common.{◌≡◌, ◌-◌, ◌≤◌, true, false, length, sym, ◌∙◌, arith, length-set, rules}
+use Rattle.std.proofs.Common.{◌≡◌, true, false, sym, ◌∙◌, arith, length-set, rules}
 use Rattle.labeling.specs.Points.{Choice}
 use Rattle.format.specs.Plate.{inside_below}
-use Rattle.format.specs.Written.{written}
 use Rattle.format.proofs.Written.{written_none}
 use Rattle.optimum.specs.Split.{flagged}
 use Rattle.optimum.proofs.ListsLaws.{inside-more, inside-same}
@@ -29,10 +28,3 @@ loop-next-preserved c =
     let e : S l.next ≡ false = sym c.is_inside.ensures ∙ c.if-is_inside.false in
     let m = inside-same S a.list.now l.next l.count l.list e l.invariant.3 l.invariant.4 in
     (search rules, search rules, search rules, m.0, m.1)
-
-pub returns : goal.returns
-returns c =
-    let a = c.args in
-    let l = c.loop-next in
-    let e : l.next ≡ a.n = omega arith in
-    (rw e at l.invariant.3, rw e at l.invariant.4)

@@ -1,10 +1,7 @@
-use Rattle.std.proofs.Common.{◌≡◌, ◌-◌, ◌≤◌, true, false, length, sym, ◌∙◌, arith, length-set, rules}
-use Rattle.labeling.specs.Points.{Choice}
+use Rattle.std.proofs.Common.{◌≡◌, ◌-◌, ◌≤◌, length}
 use Rattle.format.specs.Plate.{inside_below}
 use Rattle.format.specs.Written.{written}
-use Rattle.format.proofs.Written.{written_none}
 use Rattle.optimum.specs.Split.{flagged}
-use Rattle.optimum.proofs.ListsLaws.{inside-more, inside-same}
 use Rattle.optimum.proofs.lists.list_inside.Given as goal
 
 abbrev pub invariant-loop-next : goal.invariant-loop-next

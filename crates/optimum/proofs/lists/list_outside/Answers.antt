@@ -1,43 +1,19 @@
 -- `optimum::lists::list_outside` meets its contract: the outside positions of the points above i in height order are listed.
 -- Assumes nothing.
-use Rattle.std.proofs.Common.{◌≡◌, ℕ, ◌+◌, ◌-◌, ◌<◌, ◌≤◌, true, false, List, [], length, sym, ap, ◌∙◌, arith, length-set, rules}
-use borrow.Author.Tests.{not-true, not-false}
+use Rattle.std.proofs.Common.{◌≡◌, ℕ, ◌-◌, true, false, List, [], sym, ap, ◌∙◌, arith, length-set, rules}
 use Rattle.labeling.specs.Points.{Choice}
-use Rattle.recurrence.specs.Recurrence.{Point}
-use Rattle.orders.specs.Arrays.{heights_of, position_at}
+use Rattle.orders.specs.Arrays.{position_at}
 use Rattle.optimum.specs.Split.{flagged, outside_down, outside_positions, Listed}
 use Rattle.optimum.proofs.Outside.{down-inside, down-outside}
 use Rattle.optimum.proofs.ListsLaws.{listed-none, listed_more, listed-whole}
 use Rattle.optimum.proofs.lists.list_outside.Goals as goal
 use Rattle.optimum.proofs.lists.list_outside.Goals.{In-loop-i}
 
--- the position of point i is one of the sheet's
-below : (c : In-loop-i) → position_at c.args.heights.now c.loop-i.i < 32
-below c =
-    let h = c.args.heights.now in
-    let p = c.requires.0 in
-    let l = c.loop-i in
-    let q : Point (heights_of h) l.i = record { low = omega arith; high = omega arith } in
-    omega (arith, p.few, p.below l.i q)
-
 pub loop-i-init : goal.loop-i-init
 loop-i-init c =
     let a = c.args in
     let e = c.point_count-i.ensures.0 in
     (search rules, search rules, search rules, rw e (listed-none a.list.now (outside_positions a.heights.now a.choice.now)))
-
-pub position_at-position-requires : goal.position_at-position-requires
-position_at-position-requires c = let b = below (goal.at.position_at-position-requires c).In-loop-i in (omega (arith, c.requires.0.few), omega arith)
-
-pub is_inside-requires : goal.is_inside-requires
-is_inside-requires c = omega (arith, below (goal.at.is_inside-requires c).In-loop-i)
-
-pub bounds-list-count : goal.bounds-list-count
-bounds-list-count c =
-    omega (arith, c.loop-i.invariant.1, c.requires.0.few)
-
-pub overflow_add-count : goal.overflow_add-count
-overflow_add-count c = omega (arith, c.loop-i.invariant.1, c.requires.0.few)
 
 pub loop-i-preserved-then-not-is_inside : goal.loop-i-preserved-then-not-is_inside
 loop-i-preserved-then-not-is_inside c =

@@ -1,11 +1,6 @@
-use Rattle.std.proofs.Common.{◌≡◌, ℕ, ◌+◌, ◌-◌, ◌<◌, ◌≤◌, true, false, List, [], length, sym, ap, ◌∙◌, arith, length-set, rules}
-use borrow.Author.Tests.{not-true, not-false}
-use Rattle.labeling.specs.Points.{Choice}
-use Rattle.recurrence.specs.Recurrence.{Point}
+use Rattle.std.proofs.Common.{◌≡◌, ◌+◌, ◌≤◌, length}
 use Rattle.orders.specs.Arrays.{heights_of, position_at}
 use Rattle.optimum.specs.Split.{flagged, outside_down, outside_positions, Listed}
-use Rattle.optimum.proofs.Outside.{down-inside, down-outside}
-use Rattle.optimum.proofs.ListsLaws.{listed-none, listed_more, listed-whole}
 use Rattle.optimum.proofs.lists.list_outside.Given as goal
 
 abbrev pub invariant-loop-i : goal.invariant-loop-i

@@ -1,5 +1,4 @@
 -- `optimum::points::allowed_at` meets its contract: the cell is the one that `heights_of` reads. Assumes nothing.
-use Rattle.std.proofs.Common.{rules}
 use Rattle.orders.specs.Arrays.{heights_of}
 use Rattle.optimum.proofs.points.allowed_at.Goals as goal
 

@@ -1,8 +1,6 @@
-use Rattle.std.proofs.Common.{◌-◌, arith, rules}
+use Rattle.std.proofs.Common.{◌-◌}
 use Rattle.orders.specs.Arrays.{heights_of}
 use Rattle.optimum.specs.Table.{Taking}
-use Rattle.optimum.proofs.Steps.{ends-small}
-use Rattle.optimum.proofs.RecoveryLaws.{taking-first, taking-next, taking-last}
 use Rattle.optimum.proofs.recovery.flag_down.Given as goal
 
 abbrev pub invariant-loop-i : goal.invariant-loop-i

@@ -1,6 +1,5 @@
 -- `optimum::recovery::flag_taken` meets its contract. Assumes nothing.
 use Rattle.optimum.proofs.RecoveryLaws.{flagged-low, flagged-high, flagged-taken}
-use Rattle.std.proofs.Common.{rules}
 use Rattle.optimum.proofs.recovery.flag_taken.Goals as goal
 
 pub returns-then-rank-least : goal.returns-then-rank-least

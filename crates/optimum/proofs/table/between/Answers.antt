@@ -1,5 +1,5 @@
 -- `optimum::table::between` meets its contract, by the law of the distance that wraps round. Assumes nothing.
-use Rattle.std.proofs.Common.{arith, rules}
+use Rattle.std.proofs.Common.{arith}
 use Rattle.optimum.proofs.Steps.{between-wrapped}
 use Rattle.optimum.proofs.table.between.Goals as goal
 

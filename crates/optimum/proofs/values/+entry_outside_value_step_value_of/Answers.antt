@@ -5,11 +5,11 @@ use Rattle.orders.specs.Arrays.{heights_of}
 use Rattle.optimum.specs.declared.table.Slab.{Slab}
 use Rattle.optimum.specs.declared.values.Run.{Run}
 use Rattle.optimum.specs.Slabs.{slab_has}
-use Rattle.optimum.specs.Table.{Running, Kept, Asked, Valued, Opened}
-use Rattle.optimum.proofs.Steps.{ends-small, open-below-few, opened, open-small, open-candidate, open-weight}
-use Rattle.optimum.proofs.Steps.{ready-low, ready-high, low_value, high_value, low_small, high_small, out-cut, out_none}
-use Rattle.optimum.proofs.Running.{step_skip, step-safe, step-stop, step-on, settled-none, running-first, running-prev, running-last}
-use Rattle.optimum.proofs.Memo.{memo-value, memo-stored, valued-after, kept_refl, kept_trans}
+use Rattle.optimum.specs.Table.{Running, Asked, Opened}
+use Rattle.optimum.proofs.Steps.{open-below-few, opened, open-small, open-candidate, open-weight}
+use Rattle.optimum.proofs.Steps.{ready-high, low_value, high_value, low_small, high_small, out-cut, out_none}
+use Rattle.optimum.proofs.Running.{step_skip, step-safe, step-stop, step-on, settled-none, running-first, running-last}
+use Rattle.optimum.proofs.Memo.{memo-stored, valued-after, kept_refl, kept_trans}
 use Rattle.optimum.proofs.values.+entry_outside_value_step_value_of.Goals as goal
 
 -- ENTRY

@@ -1,5 +1,5 @@
 -- `optimum::values::joined` meets its contract, by cases. Assumes nothing.
-use Rattle.std.proofs.Common.{arith, rules}
+use Rattle.std.proofs.Common.{arith}
 use Rattle.recurrence.proofs.Joins.{joins-low, joins-high, joins-both}
 use Rattle.optimum.proofs.values.joined.Goals as goal
 

@@ -1,6 +1,5 @@
 -- `optimum::values::open_below` meets its contract: the lesser rank. Assumes nothing.
 use Rattle.optimum.specs.Slabs.{open_below}
-use Rattle.std.proofs.Common.{rules}
 use Rattle.optimum.proofs.values.open_below.Goals as goal
 
 pub returns : goal.returns

@@ -1,33 +1,19 @@
 -- `optimum::values::unreached` meets its contract: the label reaches over none of the points passed. Assumes nothing.
-use Rattle.std.proofs.Common.{suc, ◌-◌, ◌≤◌, sym, ◌∙◌, arith, rules}
+use Rattle.std.proofs.Common.{suc, ◌≤◌, sym, ◌∙◌, arith}
 use Rattle.orders.specs.Arrays.{heights_of}
-use Rattle.optimum.specs.Conflicts.{Climbing}
-use Rattle.optimum.proofs.ConflictsLaws.{climbing-first, climbing-below, climbing-reached, climbing-next, climbing-last}
+use Rattle.optimum.proofs.ConflictsLaws.{climbing-below, climbing-reached, climbing-next, climbing-last}
 use Rattle.optimum.proofs.values.unreached.Goals as goal
 use Rattle.optimum.proofs.values.unreached.Goals.{At-loop-y}
-
-pub loop-y-init : goal.loop-y-init
-loop-y-init c = climbing-first _ _ _ c.requires.2
 
 -- the upper end is a point or the upper boundary
 upper : (c : At-loop-y) → c.args.b ≤ suc (heights_of c.args.heights.now).n
 upper c = omega (arith, c.requires.3)
-
-pub label_below-requires : goal.label_below-requires
-label_below-requires c =
-    let p = c.requires in
-    (omega (arith, p.2, p.3, p.0.few), omega (arith, c.loop-y-test.true, p.3, p.0.few))
 
 pub returns-then-label_below : goal.returns-then-label_below
 returns-then-label_below c =
     let p = c.requires in
     climbing-below p.0.sorted p.1 (upper (goal.at.returns-then-label_below c).At-loop-y) c.loop-y.invariant c.loop-y-test.true
     (sym c.label_below.ensures ∙ c.if-label_below.true)
-
-pub reaches_over-requires : goal.reaches_over-requires
-reaches_over-requires c =
-    let p = c.requires in
-    (p.1, omega (arith, c.loop-y.invariant.low), omega (arith, c.loop-y-test.true, p.3, p.0.few))
 
 pub returns-then-reaches_over : goal.returns-then-reaches_over
 returns-then-reaches_over c =

@@ -1,7 +1,6 @@
-use Rattle.std.proofs.Common.{suc, ◌-◌, ◌≤◌, sym, ◌∙◌, arith, rules}
+use Rattle.std.proofs.Common.{◌-◌}
 use Rattle.orders.specs.Arrays.{heights_of}
 use Rattle.optimum.specs.Conflicts.{Climbing}
-use Rattle.optimum.proofs.ConflictsLaws.{climbing-first, climbing-below, climbing-reached, climbing-next, climbing-last}
 use Rattle.optimum.proofs.values.unreached.Given as goal
 
 abbrev pub invariant-loop-y : goal.invariant-loop-y

@@ -1,6 +1,0 @@
--- `optimum::points::high_at` meets its contract, by the array's record. Assumes nothing.
-use Rattle.std.proofs.Common.{◌∙◌, rules}
-use Rattle.optimum.proofs.points.high_at.Goals as goal
-
-pub returns : goal.returns
-returns c = c.cell.ensures.0 ∙ c.requires.0.high_is c.args.i c.requires.1
