@@ -10,6 +10,7 @@ ghost use Rattle.format.specs.RankList.{rank_in, rank_count_right, ranks_allowed
 use format::byte_at;
 
 // The count byte is there and is n, and n ranks follow it.
+#[tactic(auto, unfolding(format::specs::RankList::rank_count_right))]
 fn count_right(ranks: &[u8], n: u8) -> bool
     ensures { result ≡ rank_count_right n ranks.now }
 {
@@ -47,6 +48,7 @@ fn ranks_allowed(ranks: &[u8], n: u8) -> bool
 }
 
 // The first no of a list beside a sheet of n points, 0 for none.
+#[tactic(auto, unfolding(format::specs::RankList::ranks_no))]
 fn list_no(ranks: &[u8], n: u8) -> u8
     ensures { result ≡ ranks_no n (some ranks.now) }
 {
@@ -60,6 +62,7 @@ fn list_no(ranks: &[u8], n: u8) -> u8
 }
 
 // The first no of the list, 0 for none; without a list there is none.
+#[tactic(auto, unfolding(format::specs::RankList::ranks_no))]
 pub fn ranks_no(ranked: bool, ranks: &[u8], n: u8) -> u8
     ensures { result ≡ ranks_no n (lent ranked ranks.now) }
 {
@@ -70,6 +73,7 @@ pub fn ranks_no(ranked: bool, ranks: &[u8], n: u8) -> u8
 }
 
 // The rank of a position; without a list it is 1.
+#[tactic(auto, unfolding(format::specs::RankList::rank_in))]
 pub fn rank_of(ranked: bool, ranks: &[u8], position: u8) -> u8
     ensures { result ≡ rank_in (lent ranked ranks.now) position }
 {
