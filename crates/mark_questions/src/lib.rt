@@ -5,6 +5,7 @@ ghost use Rattle.std.specs.Prelude.{◌≡◌, ◌<◌, length};
 ghost use Rattle.mark_questions.specs.MarkQuestions.{entry_no, entries_no, list_no, loaded_list_no, number_left, mark_no};
 
 // 32 and 33 of one entry, 0 for none.
+#[tactic(auto, unfolding(crate::specs::MarkQuestions::entry_no))]
 fn entry_no(n: u8, positions: &[u8], k: usize) -> u8
     requires { k < length positions.now }
     ensures { result ≡ entry_no n positions.now k }
@@ -23,6 +24,7 @@ fn entry_no(n: u8, positions: &[u8], k: usize) -> u8
 }
 
 // The first no of 32 and 33, entry by entry, 0 for none.
+#[tactic(auto, unfolding(crate::specs::MarkQuestions::entries_no))]
 fn entries_no(n: u8, positions: &[u8]) -> u8
     ensures { result ≡ entries_no n positions.now (length positions.now) }
 {
@@ -38,6 +40,7 @@ fn entries_no(n: u8, positions: &[u8]) -> u8
 }
 
 // The first no of 31 to 33, 0 for none.
+#[tactic(auto, unfolding(crate::specs::MarkQuestions::list_no, crate::specs::MarkQuestions::count_right))]
 fn list_no(n: u8, list: &[u8]) -> u8
     ensures { result ≡ list_no n list.now }
 {
@@ -52,6 +55,7 @@ fn list_no(n: u8, list: &[u8]) -> u8
 }
 
 // 51, and then 31 to 33, 0 for none.
+#[tactic(auto, unfolding(crate::specs::MarkQuestions::loaded_list_no))]
 fn loaded_list_no(loaded: bool, n: u8, list: &[u8]) -> u8
     ensures { result ≡ loaded_list_no loaded n list.now }
 {
@@ -69,6 +73,7 @@ fn number_left(last: u16) -> bool
 }
 
 // The first no of a mark, 0 for none: whether a sheet is loaded, its n and the last number are the desk's.
+#[tactic(auto, unfolding(crate::specs::MarkQuestions::mark_no))]
 pub fn mark_no(loaded: bool, n: u8, last: u16, list: &[u8]) -> u8
     ensures { result ≡ mark_no loaded n last list.now }
 {
