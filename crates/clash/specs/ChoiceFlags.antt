@@ -1,5 +1,5 @@
 -- A choice as 256 flags, one for each position that a byte can name. Assumes nothing.
-use Rattle.std.specs.Prelude.{Bool, false, List, [], ◌∷◌, ◌++◌, ℕ, zero, suc, ◌+◌, get_or, replicate}
+use Rattle.std.specs.Prelude.{Bool, false, List, [], ◌∷◌, ◌++◌, ℕ, zero, suc, get_or, replicate}
 use Rattle.labeling.specs.Points.{Choice}
 use Rattle.format.specs.Plate.{choice_of}
 

@@ -11,10 +11,10 @@ use Rattle.clash.specs.FirstClash.{first_clash}
 
 -- The first clash c of f is that at one number, and no smaller number has one.
 pub record FirstAt (f : ℕ → Clash) (m : ℕ) (c : Clash) : Type 0 where
-  at : ℕ
-  below : at < m
-  is : f at ≡ c
-  earlier : (i : ℕ) → i < at → f i ≡ None
+  pub at : ℕ
+  pub below : at < m
+  pub is : f at ≡ c
+  pub earlier : (i : ℕ) → i < at → f i ≡ None
 
 -- WHAT CLASHES
 

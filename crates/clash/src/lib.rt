@@ -48,6 +48,7 @@ pub fn is_clash(clash: Clash) -> bool
 }
 
 // Flags with no position inside.
+#[tactic(auto, unfolding(crate::specs::ChoiceFlags::nobody_inside))]
 fn nobody_inside() -> [bool; 256]
     ensures { result ≡ nobody_inside }
 {
@@ -125,6 +126,7 @@ fn clash_if(met: bool, first: u8, second: u8, kind: ClashKind) -> Clash
 }
 
 // The clash of two positions.
+#[tactic(auto, unfolding(crate::specs::FirstClash::pair_clash))]
 fn pair_clash(sheet: &[u8], inside: &[bool; 256], i: u8, j: u8) -> Clash
     ensures { result ≡ pair_clash (points_of sheet.now) (held inside.now) i j }
 {
@@ -153,6 +155,7 @@ fn pair_clash(sheet: &[u8], inside: &[bool; 256], i: u8, j: u8) -> Clash
 }
 
 // The clash of a position with itself: it is inside and its label leaves the map.
+#[tactic(auto, unfolding(crate::specs::FirstClash::own_clash))]
 fn own_clash(sheet: &[u8], inside: &[bool; 256], position: u8) -> Clash
     ensures { result ≡ own_clash (points_of sheet.now) (held inside.now) position }
 {
@@ -169,6 +172,7 @@ fn own_clash(sheet: &[u8], inside: &[bool; 256], position: u8) -> Clash
 }
 
 // The clash of a position with the smallest position above it that it clashes with.
+#[tactic(auto, unfolding(crate::specs::FirstClash::later_clash))]
 fn later_clash(sheet: &[u8], inside: &[bool; 256], first: u8) -> Clash
     requires { first < point_count sheet.now }
     ensures { result ≡ later_clash (points_of sheet.now) (held inside.now) first }
@@ -186,6 +190,7 @@ fn later_clash(sheet: &[u8], inside: &[bool; 256], first: u8) -> Clash
 }
 
 // The clash of a position with itself, or else with the smallest position above it that it clashes with.
+#[tactic(auto, unfolding(crate::specs::FirstClash::clash_of))]
 fn clash_of(sheet: &[u8], inside: &[bool; 256], first: u8) -> Clash
     requires { first < point_count sheet.now }
     ensures { result ≡ clash_of (points_of sheet.now) (held inside.now) first }
@@ -198,6 +203,7 @@ fn clash_of(sheet: &[u8], inside: &[bool; 256], first: u8) -> Clash
 }
 
 // The first clash of the choice that the flags hold.
+#[tactic(auto, unfolding(crate::specs::FirstClash::first_of, crate::specs::FirstClash::first_clash))]
 fn first_clash_of(sheet: &[u8], inside: &[bool; 256]) -> Clash
     ensures { result ≡ first_clash (points_of sheet.now) (held inside.now) }
 {
