@@ -7,7 +7,6 @@ use Rattle.labeling.specs.Points.{Choice}
 use Rattle.labeling.specs.Marks.{Valid}
 use Rattle.labeling.specs.Best.{Agree}
 use Rattle.format.specs.Sheet.{point_count, points_of, sheet_no}
-use Rattle.format.proofs.Accepted.{accepted}
 use Rattle.format.specs.Plate.{inside_below, plate_of}
 use Rattle.plate_reader.specs.PlateQuestions.{plate_no, handed_back}
 

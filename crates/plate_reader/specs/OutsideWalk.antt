@@ -43,14 +43,14 @@ Outsiders P S l = (x : ℕ) → among x l ≡ true → (x < P.n) × (S x ≡ fal
 
 -- The bytes b are the pairs of outside points in order, with the margin columns, that come after position j in margin column k.
 pub record After (P : Points) (S : Choice) (j k : ℕ) (b : List ℕ) : Type 0 where
-  positions : List ℕ
-  ordered : Ordered P (j ∷ positions)
-  outsiders : Outsiders P S positions
-  is : j ∷ k ∷ b ≡ pairs (placed_from P j k positions)
+  pub positions : List ℕ
+  pub ordered : Ordered P (j ∷ positions)
+  pub outsiders : Outsiders P S positions
+  pub is : j ∷ k ∷ b ≡ pairs (placed_from P j k positions)
 
 -- The bytes b are the pairs of outside points in order, with the margin columns.
 pub record Walked (P : Points) (S : Choice) (b : List ℕ) : Type 0 where
-  positions : List ℕ
-  ordered : Ordered P positions
-  outsiders : Outsiders P S positions
-  is : b ≡ pairs (placed P positions)
+  pub positions : List ℕ
+  pub ordered : Ordered P positions
+  pub outsiders : Outsiders P S positions
+  pub is : b ≡ pairs (placed P positions)

@@ -2,7 +2,6 @@
 -- Assumes nothing.
 use Rattle.std.specs.Prelude.{◌≡◌, true, List, ℕ, ◌+◌, ◌*◌, ◌≤◌}
 use Rattle.std.proofs.Math.ListN.{length}
-use Rattle.labeling.specs.Points.{outside}
 use Rattle.format.specs.Sheet.{point_count, points_of, sheet_length}
 use Rattle.format.specs.Accepted.{Proper}
 use Rattle.format.specs.Plate.{choice_of}

@@ -38,6 +38,7 @@ fn outside_start(plate: &[u8]) -> usize
 }
 
 // The sections have all their bytes, end where the plate ends, and hold n points together.
+#[tactic(auto, unfolding(crate::specs::PlateQuestions::sections_fit))]
 fn sections_fit(plate: &[u8]) -> bool
     ensures { result ≡ sections_fit plate.now }
 {
@@ -51,6 +52,7 @@ fn sections_fit(plate: &[u8]) -> bool
 }
 
 // The sheet's bytes.
+#[tactic(auto, unfolding(crate::specs::PlateQuestions::sheet_of))]
 fn sheet_of(plate: &[u8]) -> &[u8]
     requires { sheet_length plate.now ≤ length plate.now }
     ensures { result.now ≡ sheet_of plate.now }
@@ -81,6 +83,7 @@ fn first_bytes(bytes: &[u8], count: usize) -> &[u8]
 }
 
 // The position bytes of the inside section, as far as they are there, of any bytes read as a plate.
+#[tactic(auto, unfolding(crate::specs::PlateQuestions::inside_list))]
 pub fn inside_positions(plate: &[u8]) -> &[u8]
     ensures { Stretch result plate.entry (min (inside_start plate.now) (length plate.now))
         (inside_list plate.now) }
@@ -90,6 +93,7 @@ pub fn inside_positions(plate: &[u8]) -> &[u8]
 }
 
 // The bytes after the outside count, of any bytes read as a plate.
+#[tactic(auto, unfolding(crate::specs::PlateQuestions::outside_pairs))]
 pub fn outside_pairs(plate: &[u8]) -> &[u8]
     ensures { Stretch result plate.entry (min (outside_start plate.now + 1) (length plate.now))
         (outside_pairs plate.now) }
@@ -110,6 +114,7 @@ fn below_next(list: &[u8], k: usize) -> bool
 }
 
 // Each position is below n and above the one before it.
+#[tactic(auto, unfolding(format::specs::Ascending::ascending))]
 fn ascends(list: &[u8], n: u8) -> bool
     ensures { result ≡ ascending n list.now }
 {
@@ -137,6 +142,7 @@ fn outside_point(sheet: &[u8], inside: &[bool; 256], position: u8) -> bool
 }
 
 // Position i stands before position j: from the highest row down, of one row the smaller column first.
+#[tactic(auto, unfolding(labeling::specs::Points::before))]
 fn stands_before(sheet: &[u8], i: u8, j: u8) -> bool
     ensures { result ≡ before (points_of sheet.now) i j }
 {
@@ -173,6 +179,7 @@ fn pair_follows(
 }
 
 // Each of the pairs follows the one before it, the first that of the arguments.
+#[tactic(auto, unfolding(crate::specs::OutsideWalk::pairs_after))]
 fn pairs_after(sheet: &[u8], inside: &[bool; 256], position: u8, margin: u8, pairs: &[u8]) -> bool
     ensures { result ≡ pairs_after (points_of sheet.now) (held inside.now) position margin pairs.now }
 {
@@ -193,6 +200,7 @@ fn pairs_after(sheet: &[u8], inside: &[bool; 256], position: u8, margin: u8, pai
 }
 
 // Each of the pairs is an outside point that follows the one before it, and the first has margin column 0.
+#[tactic(auto, unfolding(crate::specs::OutsideWalk::pairs_follow))]
 fn pairs_follow(sheet: &[u8], inside: &[bool; 256], pairs: &[u8]) -> bool
     ensures { result ≡ pairs_follow (points_of sheet.now) (held inside.now) pairs.now }
 {
@@ -214,6 +222,7 @@ fn pairs_follow(sheet: &[u8], inside: &[bool; 256], pairs: &[u8]) -> bool
 }
 
 // The first no of 41 to 44, 0 for none, of a plate whose sheet has none.
+#[tactic(auto, unfolding(crate::specs::PlateQuestions::sections_no))]
 fn sections_no(plate: &[u8]) -> u8
     requires { plate_sheet_no plate.now ≡ 0 }
     ensures { result ≡ sections_no plate.now }
@@ -237,6 +246,7 @@ fn sections_no(plate: &[u8]) -> u8
 }
 
 // The first no of a plate, 0 for none.
+#[tactic(auto, unfolding(crate::specs::PlateQuestions::plate_no, format::specs::Sheet::plate_sheet_no))]
 fn plate_no(plate: &[u8]) -> u8
     ensures { result ≡ plate_no plate.now }
 {
@@ -260,6 +270,7 @@ pub fn read_plate(plate: &[u8]) -> PlateAnswer
 
 // The inside list of an accepted plate, as that part of the plate: the position bytes without their count byte. Of a refused plate its
 // empty start.
+#[tactic(auto, unfolding(crate::specs::PlateQuestions::handed_back_at, crate::specs::PlateQuestions::handed_back))]
 pub fn inside_list(plate: &[u8]) -> &[u8]
     ensures { Stretch result plate.entry (handed_back_at plate.now) (handed_back plate.now) }
 {
