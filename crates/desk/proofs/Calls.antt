@@ -2,7 +2,7 @@
 use Rattle.std.specs.Prelude.{◌≡◌, true, ◌↔◌, List, ℕ, ◌<◌}
 use Rattle.mark_questions.specs.MarkQuestions.{list_no}
 use Rattle.mark_questions.proofs.Lists.{none_list, none-mark}
-use Rattle.desk.specs.Calls.{Calls, ◌and_then◌, loaded_after, last_taken, points_in, last_number, MarkedAfter}
+use Rattle.desk.specs.Calls.{Calls, loaded_after, last_taken, points_in, last_number, MarkedAfter}
 
 -- which is: a sheet is loaded, 31 to 33 are answered yes with its n, and the last number is below 9,999
 pub marked-exactly : (calls : Calls) (l : List ℕ)

@@ -8,10 +8,10 @@ use Rattle.labeling.proofs.Decide.{same}
 use Rattle.format.specs.Answers.{outcome_of}
 use Rattle.format.specs.MakingQuestions.{workspace_after, load_no}
 use Rattle.desk.specs.Desk.{load_outcome, Loading, loaded_desk, load_result}
-use Rattle.desk.proofs.Desk.{load-outcome-fixes}
+use Rattle.desk.proofs.Outcomes.{load-outcome-fixes}
 use Rattle.desk.specs.Desk.{load_answer_of, load_of, verdict_of, next_number, first_no, mark_outcome, mark_outcome_of}
 use Rattle.desk.specs.Desk.{Marking, marked_desk, mark_result, mark_answer_of, mark_of}
-use Rattle.desk.proofs.Desk.{mark-outcome-fixes}
+use Rattle.desk.proofs.Outcomes.{mark-outcome-fixes}
 use Rattle.desk.specs.declared.Desk.{Desk}
 use Rattle.desk.specs.declared.LoadAnswer.TheVariants.{Accepted as AcceptedSheet, Refused}
 use Rattle.desk.specs.declared.LoadResult.{LoadResult}

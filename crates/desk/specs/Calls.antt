@@ -28,7 +28,6 @@ pub data Calls : Type 0 where
   ◌and_then◌ : Calls → Call → Calls
 
 infixl 20 ◌and_then◌
-
 -- The desk that a call hands back: load_of and mark_of are the one result that the promises of a load and a mark leave (loading-exactly,
 -- marking-exactly, of DeskLaws.antt).
 abbrev pub desk_of : Desk → Call → Desk

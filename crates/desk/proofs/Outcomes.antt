@@ -1,5 +1,5 @@
 -- The theorems on the definitions of specs/Desk.antt. Assumes nothing.
-use Rattle.std.specs.Prelude.{◌≡◌, refl, ◌-◌}
+use Rattle.std.specs.Prelude.{◌≡◌, refl}
 use Rattle.std.proofs.Common.{sym, true≢false}
 use Rattle.std.proofs.Math.Option.{some}
 use Rattle.desk.specs.declared.LoadAnswer.{LoadAnswer}
