@@ -1,4 +1,5 @@
--- The theorems on the definitions of specs/ClashPixels.antt. Assumes nothing.
+-- On an accepted sheet the first clash is none exactly if the choice is valid, and otherwise it is the first, in the documents' order, of
+-- the labels that leave the map and the pairs of points that mark one pixel, with the kind that the documents give it. Assumes nothing.
 use Rattle.std.specs.Prelude.{◌≡◌, refl, Bool, false, ◌⊎◌, ◌↔◌, List, ℕ, zero, suc, ◌≤◌, ◌<◌}
 use Rattle.std.proofs.Common.{sym, ap, ◌∙◌, inl, inr, lt-ltb, le-ltb}
 use native.Mathlib.Omega.{arith}

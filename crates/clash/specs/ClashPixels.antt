@@ -1,5 +1,6 @@
--- On an accepted sheet the first clash is none exactly if the choice is valid, and otherwise it is the first, in the documents' order, of
--- the labels that leave the map and the pairs of points that mark one pixel, with the kind that the documents give it. Assumes nothing.
+-- What proofs/ClashPixels.antt proves: on an accepted sheet the first clash is none exactly if the choice is valid, and otherwise it is
+-- the first, in the documents' order, of the labels that leave the map and the pairs of points that mark one pixel, with the kind that the
+-- documents give it. Assumes nothing.
 use Rattle.std.specs.Prelude.{◌≡◌, true, false, ◌⊎◌, ◌↔◌, ℕ, ◌≤◌, ◌<◌}
 use Rattle.labeling.specs.Points.{Points, Choice}
 use Rattle.labeling.specs.Marks.{Shared, LabelOnMap, Valid}
@@ -48,8 +49,8 @@ pub data ClashIs (P : Points) (S : Choice) (i j : ℕ) : Clash → Type 0 where
   apart : (Clashing P S i j → ⊥) → ClashIs P S i j None
   met : {k : ClashKind} → Clashing P S i j → KindOf k S i j → ClashIs P S i j (Between i j k)
 
--- THE THEOREM: on an accepted sheet the first clash is none exactly if no pixel is marked by two points and no inside label leaves the map,
--- and it is two positions with a kind exactly if the documents name them and that kind.
+-- WHAT THE THEOREM SAYS: on an accepted sheet the first clash is none exactly if no pixel is marked by two points and no inside label
+-- leaves the map, and it is two positions with a kind exactly if the documents name them and that kind.
 pub record FirstClashRight (P : Points) (S : Choice) : Type 0 where
   pub none : (first_clash P S ≡ None) ↔ Valid P S
   pub between : (i j : ℕ) (k : ClashKind) → (first_clash P S ≡ Between i j k) ↔ Named P S i j k

@@ -1,6 +1,6 @@
 -- The first clash of a choice and its kind (document 01, "The desk", and document 02 (a) and (c)), by tests on any points and any choice.
--- ClashPixels.antt shows that on an accepted sheet it is the first of the labels that leave the map and the pairs of points that mark one
--- pixel. Assumes nothing.
+-- proofs/ClashPixels.antt shows that on an accepted sheet it is the first of the labels that leave the map and the pairs of points that
+-- mark one pixel. Assumes nothing.
 use Rattle.std.specs.Prelude.{Bool, true, false, cond, not, ℕ, zero, suc, ltb, eqb}
 use Rattle.labeling.specs.Points.{Points, Choice}
 use Rattle.labeling.specs.Marks.{label_on_map_b}

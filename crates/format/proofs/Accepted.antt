@@ -1,4 +1,5 @@
--- The theorems on the definitions of specs/Accepted.antt. Assumes nothing.
+-- What an accepted sheet has: the questions 11 to 20 are all answered yes exactly if the sheet keeps the documents' rules. The crates
+-- above rely on these facts. Assumes nothing.
 use Rattle.std.specs.Prelude.{◌≡◌, refl, Bool, true, not, List, ℕ, zero, suc, ◌+◌, ◌*◌, ◌≤◌, ◌<◌, ltb, eqb, length}
 use Rattle.std.proofs.Common.{sym, arith}
 use borrow.Author.Tests.{eqb-true, eqb-false, eq-eqb}

@@ -1,4 +1,4 @@
--- The theorems on the definitions of specs/Bytes.antt. Assumes nothing.
+-- When two lists of bytes are the same, and the bytes from a place on. Assumes nothing.
 use Rattle.std.specs.Prelude.{◌≡◌, refl, true, List, [], ◌∷◌, ℕ, suc, ◌+◌, ◌-◌, ◌<◌, eqb, length, get_or, take, drop}
 use Rattle.std.proofs.Common.{ap, ◌∙◌, length-drop, take_all, drop-cons, eqb-true, eq-eqb, add-one, arith}
 use Rattle.labeling.proofs.Decide.{not-both, and_left, and_right, and_both, Decides}

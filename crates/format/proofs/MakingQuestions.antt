@@ -1,4 +1,4 @@
--- The theorems on the definitions of specs/MakingQuestions.antt. Assumes nothing.
+-- What a making and a load without a no have, and what a call leaves in the workspace. Assumes nothing.
 use Rattle.std.specs.Prelude.{◌≡◌, Bool, true, List, ℕ, ◌+◌, ◌*◌, ◌≤◌, length, replicate}
 use Rattle.std.proofs.Math.Option.{Option}
 use Rattle.std.proofs.Common.{ne_eqb, arith}

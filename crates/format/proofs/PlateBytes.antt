@@ -1,4 +1,5 @@
--- The theorems on the definitions of specs/PlateBytes.antt. Assumes nothing.
+-- "its position and its margin column, a byte each": a margin column is less than the number of points that are placed, and a plate's
+-- numbers are bytes if the sheet's are. Assumes nothing.
 use Rattle.std.specs.Prelude.{◌≡◌, true, false, cond, List, [], ◌∷◌, ◌++◌, ℕ, zero, suc, ◌+◌, ◌≤◌, ◌<◌, eqb, length}
 use Rattle.std.proofs.Common.{arith}
 use Rattle.labeling.specs.Points.{Points, Choice, before, insert, outside_below, outside}

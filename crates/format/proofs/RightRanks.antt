@@ -1,4 +1,4 @@
--- The theorems on the definitions of specs/RightRanks.antt. Assumes nothing.
+-- What a rank list without a no is. Assumes nothing.
 use Rattle.std.specs.Prelude.{List, ℕ, ◌+◌, ◌<◌, length, get_or}
 use Rattle.std.proofs.Math.Option.{Option, none, some}
 use Rattle.std.proofs.Common.{arith}

@@ -1,4 +1,5 @@
--- The theorems on the definitions of specs/SharedRows.antt. Assumes nothing.
+-- What document 02 (c) says of numbers: 61 comes exactly if no choice of the sheet is valid, the sheet's own questions never have it, and
+-- "Sheets with distinct rows get the answers they had". Assumes nothing.
 use Rattle.std.specs.Prelude.{◌≡◌, Bool, ◌↔◌, List, leb, eqb, length}
 use Rattle.std.proofs.Math.Path.{refl}
 use Rattle.std.proofs.Common.{sym, ◌∙◌, eq-eqb, ne_eqb, arith}

@@ -1,4 +1,4 @@
--- The theorems on the definitions of specs/Unranked.antt. Assumes nothing.
+-- "Without a list every rank is 1 and all earlier answers hold" (document 02 (e)); and a lent list of ones is like none. Assumes nothing.
 use Rattle.std.specs.Prelude.{◌≡◌, refl, List, eqb}
 use Rattle.std.proofs.Common.{sym, eqb-true}
 use Rattle.std.proofs.Math.Path.{ap}

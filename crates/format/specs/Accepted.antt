@@ -1,5 +1,5 @@
--- What an accepted sheet has: the questions 11 to 20 are all answered yes exactly if the sheet keeps the documents' rules. The crates
--- above rely on these facts. Assumes nothing.
+-- What an accepted sheet has: the documents' rules, as facts. proofs/Accepted.antt shows that the questions 11 to 20 are all answered yes
+-- exactly if the sheet keeps them. The crates above rely on these facts. Assumes nothing.
 use Rattle.std.specs.Prelude.{◌≡◌, List, ℕ, ◌+◌, ◌*◌, ◌≤◌, ◌<◌, length}
 use Rattle.labeling.specs.Points.{Distinct}
 use Rattle.format.specs.Sheet.{frame_count, map_width, map_height, label_width, label_height, point_count, call_number, column}

@@ -1,4 +1,4 @@
--- When two lists of bytes are the same, and the bytes from a place on. Assumes nothing.
+-- When two lists of bytes are the same. Assumes nothing.
 use Rattle.std.specs.Prelude.{Bool, true, false, ◌&&◌, List, [], ◌∷◌, ℕ, eqb}
 
 abbrev pub same_bytes : List ℕ → List ℕ → Bool

@@ -12,9 +12,8 @@ pub mod Bytes
 pub mod Written
 pub mod Padded
 pub mod Stretches
--- THEOREMS: what an accepted sheet has, and a right rank list; 61, and sheets with distinct rows; the first bytes that decide; how long a
--- plate is, and that it is bytes; the best plate is that of the preferred choice; answers without a rank list, and with one of ones; an
--- ascending list is the list of one choice.
+-- WHAT THEOREMS SAY: what an accepted sheet has, and a right rank list; what document 02 (c) promises sheets with distinct rows; lists of
+-- bytes; answers without a rank list. The theorems are in the modules of these names in proofs/.
 pub mod Accepted
 pub mod RightRanks
 pub mod SharedRows

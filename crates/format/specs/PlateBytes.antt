@@ -1,5 +1,5 @@
--- "its position and its margin column, a byte each": a margin column is less than the number of points that are placed, and a plate's
--- numbers are bytes if the sheet's are. Assumes nothing.
+-- Lists of bytes. "its position and its margin column, a byte each": proofs/PlateBytes.antt shows that a plate's numbers are bytes if the
+-- sheet's are. Assumes nothing.
 use Rattle.std.specs.Prelude.{List, [], ◌∷◌, ℕ, ◌<◌}
 
 -- BYTES

@@ -1,5 +1,5 @@
--- What document 02 (c) says of numbers: 61 comes exactly if no choice of the sheet is valid, the sheet's own questions never have it, and
--- "Sheets with distinct rows get the answers they had". Assumes nothing.
+-- What document 02 (c) says of numbers: "Sheets with distinct rows get the answers they had". proofs/SharedRows.antt proves it, and that 61
+-- comes exactly if no choice of the sheet is valid, and never from the sheet's own questions. Assumes nothing.
 use Rattle.std.specs.Prelude.{◌≡◌, Bool, List, eqb}
 use Rattle.std.proofs.Math.Option.{Option}
 use Prim.Native.Nat.{ℕ, zero, suc}
@@ -8,7 +8,7 @@ use Rattle.format.specs.Sheet.{ask, then_no, up_to, on_map, same_call, unlike_ea
 use Rattle.format.specs.MakingQuestions.{asked_no, output_fits, making_no, load_asked_no}
 use Rattle.format.specs.MakingQuestions.{load_no}
 
--- nor have the rank list's questions the number 61
+-- The number k isn't 61.
 abbrev pub Other : ℕ → Type 0
 Other k = k ≡ 61 → ⊥
 

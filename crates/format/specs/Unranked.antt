@@ -1,4 +1,5 @@
--- "Without a list every rank is 1 and all earlier answers hold" (document 02 (e)); and a lent list of ones is like none. Assumes nothing.
+-- "Without a list every rank is 1 and all earlier answers hold" (document 02 (e)); and a list of ones. proofs/Unranked.antt shows that a
+-- lent list of ones is like none. Assumes nothing.
 use Rattle.std.specs.Prelude.{◌≡◌, List, ◌∷◌, replicate}
 use Rattle.std.proofs.Math.Option.{none}
 use Prim.Native.Nat.{ℕ}

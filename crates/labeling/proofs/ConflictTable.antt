@@ -1,4 +1,4 @@
--- The theorems on the definitions of specs/ConflictTable.antt. Assumes nothing.
+-- The table of conflicts for a pair in height order is right, and a conflict is mutual. Assumes nothing.
 use Rattle.std.specs.Prelude.{◌≡◌, ◌⊎◌, ◌↔◌, ℕ, ◌≤◌, ◌<◌, ltb}
 use Rattle.std.proofs.Common.{sym, inl, inr, ltb-true, ltb-false, arith}
 use Rattle.labeling.specs.Points.{Points, Choice, Distinct}

@@ -1,4 +1,5 @@
--- The theorems on the definitions of specs/Frame.antt. Assumes nothing.
+-- The frame (document 02 (a)): a label is on the map exactly if all its pixels are, so that valid is said of pixels alone. And labels
+-- beside the map's edges. Assumes nothing.
 use Rattle.std.specs.Prelude.{◌≡◌, refl, Bool, true, false, [], ◌∷◌, ◌↔◌, ℕ, ◌+◌, ◌-◌, ◌≤◌}
 use Rattle.std.proofs.Common.{arith}
 use Rattle.labeling.specs.Points.{Points, Choice, Pixel, at_column, in_margin}

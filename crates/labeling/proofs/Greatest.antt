@@ -1,4 +1,5 @@
--- The theorems on the definitions of specs/Greatest.antt. Assumes nothing.
+-- The best is reached by a valid choice, and no valid choice exceeds it; any number with these two properties is the best.
+-- Assumes nothing.
 use Rattle.std.specs.Prelude.{◌≡◌, refl, Bool, true, false, ℕ, zero, suc, ◌+◌, ◌≤◌, ◌<◌, pred, leb}
 use Rattle.std.proofs.Common.{sym, ◌∙◌, leb-true, leb-false, eq-eqb, ne_eqb, arith}
 use Rattle.labeling.specs.Points.{Points, Choice, DistinctRows}

@@ -1,3 +1,6 @@
+-- THEOREMS OVER PIXELS: conflicts are shared pixels, and the test of validity decides it (Pixels, ConflictTable); a label on the map
+-- (Frame); the outside list and the margin columns (Order, Margin), and the air between outer labels (Air); the best is reached and never
+-- exceeded (Greatest); there is one preferred choice (Preferred); single pixels (Looks).
 pub mod Margin
 pub mod Order
 pub mod Pixels

@@ -1,4 +1,5 @@
--- The theorems on the definitions of specs/Margin.antt. Assumes nothing.
+-- The margin: of two outside points at most h apart, the lower one stands further out.
+-- Assumes nothing.
 use Rattle.std.specs.Prelude.{◌≡◌, refl, Bool, true, false, ◌||◌, List, [], ◌∷◌, ◌++◌, ℕ, zero, suc, ◌+◌, ◌≤◌, ◌<◌, ltb, leb, eqb}
 use Rattle.std.proofs.Common.{ap, ◌∙◌, ltb-true, ltb-false, eqb-true, le-leb, eq-eqb, ne_eqb, arith}
 use Rattle.labeling.specs.Points.{Points, Choice, before, insert, outside_below, outside, among}

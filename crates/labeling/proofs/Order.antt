@@ -1,4 +1,6 @@
--- The theorems on the definitions of specs/Order.antt. Assumes nothing.
+-- The list of outside points is what it should be: just the outside positions, each once, from the highest row down (of one row
+-- the smaller column first). And the margin columns without a list: the first, and each next.
+-- Assumes nothing.
 use Rattle.std.specs.Prelude.{◌≡◌, refl, true, false, ◌⊎◌, List, [], ◌∷◌, ℕ, zero, suc, ◌+◌, ◌≤◌, ◌<◌, ltb, length}
 use Rattle.std.proofs.Common.{sym, ◌∙◌, ap, inl, inr, ⊎_elim, arith}
 use Rattle.labeling.specs.Points.{Points, Choice, Distinct, before, insert, outside_below, outside}

@@ -1,4 +1,5 @@
--- The theorems on the definitions of specs/Pixels.antt. Assumes nothing.
+-- Two points share a pixel exactly if they conflict; validity by pixels is validity by arithmetic.
+-- Assumes nothing.
 use Rattle.std.specs.Prelude.{◌≡◌, refl, true, false, ◌↔◌, ℕ, ◌+◌, ◌*◌, ◌≤◌, ◌<◌, max}
 use Rattle.std.proofs.Common.{inl, inr, mul-le-mul_right, arith}
 use Rattle.labeling.specs.Points.{Points, Choice, DistinctRows, Pixel, at_column, in_margin, margin_column}

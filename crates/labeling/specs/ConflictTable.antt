@@ -1,4 +1,5 @@
--- The table of conflicts for a pair in height order, and a conflict is mutual. Assumes nothing.
+-- The table of conflicts for a pair in height order. proofs/ConflictTable.antt shows that it is right, and that a conflict is mutual.
+-- Assumes nothing.
 use Rattle.std.specs.Prelude.{◌≡◌, cond, ◌⊎◌, ℕ, ◌+◌, ◌≤◌, ◌<◌}
 use Rattle.labeling.specs.Points.{Points, Choice}
 

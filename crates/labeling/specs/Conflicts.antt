@@ -1,6 +1,6 @@
--- When two points conflict, and the test of validity, by arithmetic. Pixels.antt shows that two points conflict exactly if they mark one
--- pixel, and that the test decides validity. Beside each fact stands the test that computes it; Tests.antt shows that they agree.
--- Assumes nothing.
+-- When two points conflict, and the test of validity, by arithmetic. proofs/Pixels.antt shows that two points conflict exactly if they
+-- mark one pixel, and that the test decides validity. Beside each fact stands the test that computes it; proofs/Tests.antt shows that they
+-- agree. Assumes nothing.
 use Rattle.std.specs.Prelude.{◌≡◌, Bool, true, cond, not, ◌&&◌, ◌||◌, ℕ, zero, suc, ◌+◌, ◌≤◌, ◌<◌, ltb, leb, eqb}
 use Rattle.labeling.specs.Points.{Points, Choice}
 use Rattle.labeling.specs.Marks.{LabelOnMap, label_on_map_b}

@@ -1,4 +1,4 @@
--- The best is reached by a valid choice, and no valid choice exceeds it; any number with these two properties is the best.
+-- What the proof speaks of that the best is reached by a valid choice, and that no valid choice exceeds it (proofs/Greatest.antt).
 -- Assumes nothing.
 use Rattle.std.specs.Prelude.{◌≡◌, ℕ, suc, ◌<◌}
 use Rattle.labeling.specs.Points.{Points, Choice}

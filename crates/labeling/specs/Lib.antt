@@ -4,9 +4,8 @@ pub mod Points
 pub mod Marks
 pub mod Conflicts
 pub mod Best
--- THEOREMS OVER PIXELS: conflicts are shared pixels, and the test of validity decides it (Pixels, ConflictTable); a label on the map
--- (Frame); the outside list and the margin columns (Order, Margin), and the air between outer labels (Air); the best is reached and never
--- exceeded (Greatest); there is one preferred choice (Preferred); single pixels (Looks).
+-- WHAT THEOREMS SPEAK OF BESIDES: the outside list (Margin, Order), marks and pairs (Pixels, ConflictTable), valid said of pixels alone
+-- (Frame), and the best (Greatest). The theorems are in the modules of these names in proofs/.
 pub mod Margin
 pub mod Order
 pub mod Pixels

@@ -1,5 +1,5 @@
 -- The pixels that a point marks, and when a choice is valid (document 01, "Marks and pixels", and document 02 (a)). Beside each kind of
--- mark stands the test that computes it; Tests.antt shows that they agree. Assumes nothing.
+-- mark stands the test that computes it; proofs/Tests.antt shows that they agree. Assumes nothing.
 use Rattle.std.specs.Prelude.{◌≡◌, Bool, true, false, cond, ◌&&◌, ◌||◌, ◌⊎◌, ℕ, ◌+◌, ◌*◌, ◌≤◌, ◌<◌, ltb, leb, eqb}
 use Rattle.labeling.specs.Points.{Points, Choice, Pixel, at_column, in_margin, margin_column}
 
@@ -42,7 +42,7 @@ marks_b P S i p = cond (S i) (label_b P i p) (leader_b P (margin_column P S i) i
 abbrev pub Shared : Points → Choice → ℕ → ℕ → Type 0
 Shared P S i j = (p : Pixel) × Marks P S i p × Marks P S j p
 
--- Document 02 (a): the label of position i, put inside, lies "wholly on the map". Frame.antt says it of the label's pixels.
+-- Document 02 (a): the label of position i, put inside, lies "wholly on the map". proofs/Frame.antt says it of the label's pixels.
 abbrev pub LabelOnMap : Points → ℕ → Type 0
 LabelOnMap P i = (P.column i + P.w ≤ P.map_width) × (P.row i + P.h ≤ P.map_height)
 

@@ -1,6 +1,5 @@
--- The list of outside points is what it should be: just the outside positions, each once, from the highest row down (of one row
--- the smaller column first). And the margin columns without a list: the first, and each next.
--- Assumes nothing.
+-- The order of the outside points as a fact: from the highest row down, of one row the smaller column first. proofs/Order.antt shows that
+-- their list is what it should be. Assumes nothing.
 use Rattle.std.specs.Prelude.{◌≡◌, true, ◌⊎◌, List, [], ◌∷◌, ℕ, ◌<◌}
 use Rattle.labeling.specs.Points.{Points}
 use Rattle.labeling.specs.Points.{among}

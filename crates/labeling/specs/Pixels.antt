@@ -1,5 +1,5 @@
--- Two points share a pixel exactly if they conflict; validity by pixels is validity by arithmetic.
--- Assumes nothing.
+-- The marks of an outside point together. proofs/Pixels.antt shows that two points share a pixel exactly if they conflict, so that
+-- validity by pixels is validity by arithmetic. Assumes nothing.
 use Rattle.std.specs.Prelude.{◌⊎◌, ℕ}
 use Rattle.labeling.specs.Points.{Points, Pixel}
 use Rattle.labeling.specs.Marks.{Leader, Outer}

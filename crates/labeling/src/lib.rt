@@ -1,3 +1,3 @@
-// Definitions and theorems only, in specs/: points, pixels, margin columns, marks, validity, conflicts of pairs, and the best.
+// Definitions in specs/ and theorems in proofs/ only: points, pixels, margin columns, marks, validity, conflicts of pairs, and the best.
 #![tactic(auto)]
 

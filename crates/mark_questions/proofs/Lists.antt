@@ -1,4 +1,5 @@
--- The theorems on the definitions of specs/Lists.antt. Assumes nothing.
+-- What the questions of a mark ask, as facts: a list without a no is its count byte and an ascending list of positions below n. Assumes
+-- nothing.
 use Rattle.std.specs.Prelude.{◌≡◌, refl, Bool, true, List, [], ◌∷◌, ℕ, zero, suc, ◌+◌, ◌<◌, ltb, eqb, length, get_or}
 use Rattle.std.proofs.Common.{eqb-true, eq-eqb, arith}
 use Rattle.std.proofs.lemmas.Bool.{eqb-false}

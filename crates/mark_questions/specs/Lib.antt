@@ -1,4 +1,4 @@
 -- TO BE BELIEVED: the questions of a mark.
 pub mod MarkQuestions
--- THEOREMS: what a list without a no is, and a mark without one.
+-- WHAT THEOREMS SAY (proofs/): what a list without a no is.
 pub mod Lists

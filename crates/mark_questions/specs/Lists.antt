@@ -1,5 +1,5 @@
--- What the questions of a mark ask, as facts: a list without a no is its count byte and an ascending list of positions below n. Assumes
--- nothing.
+-- What the questions of a mark ask, as facts. proofs/Lists.antt shows that a list without a no is its count byte and an ascending list of
+-- positions below n. Assumes nothing.
 use Rattle.std.specs.Prelude.{◌≡◌, true, List, ℕ, ◌+◌, ◌<◌, length, get_or}
 use Rattle.format.specs.Ascending.{ascending}
 use Rattle.mark_questions.specs.MarkQuestions.{positions}

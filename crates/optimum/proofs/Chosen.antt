@@ -1,4 +1,5 @@
--- The theorems on the definitions of specs/Chosen.antt. Assumes nothing.
+-- The recovered choice is the best choice of the sheet, and its two lists are those that are written; and where the value is 0, no choice
+-- is valid. Assumes nothing.
 use Rattle.std.specs.Prelude.{◌≡◌, ℕ, suc, ◌≤◌, Bool, true, false, cond, List, length, replicate, ◌==◌, ◌≢◌, nat_eq, refl}
 use Rattle.std.proofs.Math.Path.{ap, sym}
 use Rattle.std.proofs.Common.{◌∙◌, ne_eqb, arith}

@@ -1,4 +1,4 @@
--- The theorems on the definitions of specs/Limits.antt. Assumes nothing.
+-- Top and high of a point: how loops find them, and that writing them leaves the points as they are. Assumes nothing.
 use Rattle.std.specs.Prelude.{◌≡◌, ℕ, suc, ◌+◌, ◌-◌, ◌*◌, ◌<◌, ◌≤◌, Bool, true, false, List, length, ◌≢◌, nat_eq, slice_index, slice_index_or, slice_set, refl}
 use Rattle.std.proofs.Common.{sym, ◌∙◌, length-set, get_or-set_same, get_or-set_other}
 use Rattle.std.proofs.Math.Path.{ap}

@@ -4,8 +4,8 @@ pub mod Choosing
 pub mod Table
 pub mod Slabs
 -- BOOKKEEPING: what the array must hold for the table (Packed, Prepared, Limits, SameHeights), the table's places and cells (Places,
--- Entries), the tests as the code makes them (Conflicts), the steps of a slab's value and of the recovery (Memo, Steps, Running, Recovery),
--- and from flags by height order to two lists of positions (ByPosition, Split, Lists, Outside, Chosen).
+-- Entries), the tests as the code makes them (Conflicts), and from flags by height order to two lists of positions (ByPosition, Split,
+-- Chosen).
 pub mod Packed
 pub mod Prepared
 pub mod Limits

@@ -1,4 +1,5 @@
--- Top and high of a point: how loops find them, and that writing them leaves the points as they are. Assumes nothing.
+-- Top and high of a point: what loops find, and what writing them leaves. proofs/LimitsLaws.antt shows that it leaves the points as they
+-- are. Assumes nothing.
 use Rattle.std.specs.Prelude.{◌≡◌, ℕ, ◌+◌, ◌<◌, ◌≤◌, Bool, ◌&&◌, List, length, nat_le, nat_lt, slice_index}
 use Rattle.recurrence.specs.Recurrence.{Heights, Point, Sorted}
 use Rattle.recurrence.specs.Comparisons.{Passes, high_of, top_of}

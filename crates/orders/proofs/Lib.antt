@@ -1,6 +1,9 @@
+-- WHAT FOLLOWS from the promise of ordered_points: what the array holds (BothOrders, GivenLaws), and that the promise fixes it
+-- (OrderedCells).
 pub mod BothOrders
 pub mod OrderedCells
 pub mod GivenLaws
+-- BOOKKEEPING: numbers in four cells, arrays with cells written, ranks by counting, and what each step writes.
 pub mod Words
 pub mod Sums
 pub mod Cells

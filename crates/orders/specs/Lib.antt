@@ -1,5 +1,5 @@
--- WHAT IS PROMISED of ordered_points: its number, and the array of the points, every cell of which is fixed (`ordered-fixes`). Layout says
--- where each field stands; Given is what each position weighs, and who may be inside.
+-- WHAT IS PROMISED of ordered_points: its number, and the array of the points, every cell of which is fixed (proofs/OrderedCells.antt,
+-- `ordered-fixes`). Layout says where each field stands; Given is what each position weighs, and who may be inside.
 pub mod Ordering
 pub mod BothOrders
 pub mod OrderedCells

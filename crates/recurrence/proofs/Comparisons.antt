@@ -1,4 +1,5 @@
--- The theorems on the definitions of specs/Comparisons.antt. Assumes nothing.
+-- The tests of the recurrence as comparisons with two numbers for each point, which a program finds once for all slabs.
+-- Assumes nothing.
 use Rattle.std.specs.Prelude.{◌≡◌, refl, Bool, true, cond, not, ◌&&◌, ◌||◌, ◌↔◌, ltb, leb, eqb}
 use Rattle.std.proofs.Common.{ap}
 use Prim.Native.Nat.{ℕ, zero, suc, ◌+◌, ◌≤◌, ◌<◌}

@@ -1,4 +1,5 @@
--- The theorems on the definitions of specs/NoBetter.antt. Assumes nothing.
+-- No choice without conflicts weighs more than the value of a slab that it matches.
+-- Assumes nothing.
 use Rattle.std.specs.Prelude.{◌≡◌, Bool, true, false, ℕ, zero, suc, ◌+◌, ◌≤◌, ◌<◌}
 use Rattle.std.proofs.Common.{ap, arith}
 use Rattle.labeling.proofs.Decide.{not-both, decide, same, less, dec-false}

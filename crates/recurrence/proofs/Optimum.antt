@@ -1,4 +1,5 @@
--- The theorems on the definitions of specs/Optimum.antt. Assumes nothing.
+-- THE OPTIMUM: the choice that is recovered from the whole slab has no conflicts, it weighs the value, and no choice weighs more.
+-- Assumes nothing.
 use Rattle.std.specs.Prelude.{◌≡◌, Bool, false, ◌↔◌, ℕ, suc, ◌≤◌, ◌<◌}
 use Rattle.std.proofs.Math.Path.{refl}
 use Rattle.std.proofs.Common.{sym}

@@ -1,4 +1,5 @@
--- The theorems on the definitions of specs/Positions.antt. Assumes nothing.
+-- From height order back to positions: the best of the points is the optimum of the points in height order.
+-- Assumes nothing.
 use Rattle.std.specs.Prelude.{◌≡◌, ◌↔◌}
 use Rattle.std.proofs.Math.Path.{refl, sym, ap}
 use Rattle.std.proofs.Common.{◌∙◌, arith}

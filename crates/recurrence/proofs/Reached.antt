@@ -1,4 +1,5 @@
--- The theorems on the definitions of specs/Reached.antt. Assumes nothing.
+-- A choice that follows the recovery has no conflicts.
+-- Assumes nothing.
 use Rattle.std.specs.Prelude.{◌≡◌, refl, Bool, true, false, ℕ, zero, suc, ◌+◌, ◌≤◌, ◌<◌}
 use Rattle.std.proofs.Common.{sym, ◌∙◌, ap, arith}
 use Rattle.labeling.proofs.Decide.{not-both, decide, same, less}

@@ -1,4 +1,5 @@
--- The theorems on the definitions of specs/Recovered.antt. Assumes nothing.
+-- A choice that follows the recovery weighs the value of the slab; and what the recovery does down to a cut.
+-- Assumes nothing.
 use Rattle.std.specs.Prelude.{◌≡◌, refl, Bool, true, false, ◌&&◌, ℕ, zero, suc, ◌≤◌, ◌<◌, ltb, leb}
 use Rattle.std.proofs.Common.{sym, ◌∙◌, ap, arith}
 use borrow.Author.Tests.{ltb-true, ltb-false, lt-ltb, le-ltb, le-leb, lt-leb, eq-eqb, ne_eqb}

@@ -1,4 +1,5 @@
--- The theorems on the definitions of specs/RecurrenceTests.antt. Assumes nothing.
+-- The tests of Recurrence.antt against the facts that they test, and one equation for each branch of its recursions.
+-- Assumes nothing.
 use Rattle.std.specs.Prelude.{◌≡◌, refl, Bool, true, false, cond, ◌&&◌, ◌||◌, ltb, eqb}
 use Rattle.std.proofs.Math.Bool.{not}
 use Prim.Native.Nat.{ℕ, zero, suc, ◌+◌, ◌≤◌, ◌<◌, max}

@@ -1,4 +1,6 @@
--- The theorems on the definitions of specs/Safe.antt. Assumes nothing.
+-- A point that may be inside, and whose label reaches over no point above it in its slab, gives no more outside than inside: its cut
+-- needn't be tried. For any weights, points that aren't allowed, and points that share a row.
+-- Assumes nothing.
 use Rattle.std.specs.Prelude.{◌≡◌, true, ℕ, zero, suc, ◌≤◌, ◌<◌}
 use Rattle.std.proofs.Math.Path.{refl}
 use Rattle.std.proofs.Common.{sym, ap, arith}

@@ -1,4 +1,5 @@
--- The theorems on the definitions of specs/Slabs.antt. Assumes nothing.
+-- Facts about two or three points; and a slab of the recurrence that a choice matches, with its successors.
+-- Assumes nothing.
 use Rattle.std.specs.Prelude.{◌≡◌, Bool, true, false, ℕ, suc, ◌+◌, ◌≤◌, ◌<◌}
 use Rattle.std.proofs.Common.{sym, ◌∙◌, ap, arith}
 use Rattle.labeling.proofs.Decide.{same, less}

@@ -1,4 +1,5 @@
--- The theorems on the definitions of specs/Sums.antt. Assumes nothing.
+-- Sums of numbers; and a sum is the same in another order.
+-- Assumes nothing.
 use Rattle.std.specs.Prelude.{◌≡◌, refl, cond, ℕ, zero, suc, ◌+◌, ◌<◌, eqb}
 use Rattle.std.proofs.Common.{sym, ◌∙◌, eq-eqb, ne_eqb, arith}
 use Rattle.labeling.proofs.Decide.{same}

@@ -1,4 +1,5 @@
--- The theorems on the definitions of specs/TieBreak.antt. Assumes nothing.
+-- Weights that break every tie of up to 32 points: with them the best choice is the preferred one. A method of finding it, which no
+-- statement about best choices needs. Assumes nothing.
 use Rattle.std.specs.Prelude.{◌≡◌, refl, true, false, ℕ, zero, suc, ◌+◌, ◌*◌, ◌-◌, ◌/◌, ◌^◌, ◌≤◌, ◌<◌, ltb, eqb}
 use Rattle.std.proofs.Common.{ltb-true, ltb-false, eqb-true, arith}
 use Rattle.labeling.specs.Points.{Points, Choice}

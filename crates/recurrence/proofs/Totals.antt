@@ -1,4 +1,5 @@
--- The theorems on the definitions of specs/Totals.antt. Assumes nothing.
+-- The weight of a choice counted by rank is its weight counted by point; and a value is at most one more than the weight of all points.
+-- Assumes nothing.
 use Rattle.std.specs.Prelude.{◌≡◌, refl, Bool, cond, ◌&&◌, ℕ, zero, suc, ◌+◌, ◌-◌, ◌≤◌, ◌<◌, ltb, leb}
 use Rattle.std.proofs.Common.{sym, ◌∙◌, lt-ltb, le-ltb, le-leb, arith}
 use Rattle.std.proofs.lemmas.Bool.{lt-leb}

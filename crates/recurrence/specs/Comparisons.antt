@@ -1,5 +1,5 @@
--- The tests of the recurrence as comparisons with two numbers for each point, which a program finds once for all slabs.
--- Assumes nothing.
+-- Two numbers for each point, which a program finds once for all slabs. proofs/Comparisons.antt shows that the tests of the recurrence are
+-- comparisons with them. Assumes nothing.
 use Rattle.std.specs.Prelude.{◌≡◌, Bool, true, cond, ◌&&◌, ltb}
 use Prim.Native.Nat.{ℕ, zero, suc, ◌≤◌}
 use Rattle.recurrence.specs.Recurrence.{Heights, overlaps, reaches_over}

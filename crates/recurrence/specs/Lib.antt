@@ -1,12 +1,13 @@
--- THE OPTIMUM: the recurrence for points in height order, and that it is the best over pixels (Optimum, Positions). Safe are the points
--- whose cut needn't be tried, Comparisons the tests as a program makes them, and TieBreak weights that find the preferred choice.
+-- THE OPTIMUM: the recurrence for points in height order, its value and its choice (Optimum), and the points from height order to
+-- positions (Positions). Safe are the points whose cut needn't be tried, Comparisons the tests as a program makes them, and TieBreak
+-- weights that find the preferred choice. The theorems are in the modules of these names in proofs/.
 pub mod Recurrence
 pub mod Optimum
 pub mod Positions
 pub mod Safe
 pub mod Comparisons
 pub mod TieBreak
--- BOOKKEEPING: tests; the halves of the optimum's proof, step by step.
+-- BOOKKEEPING: what the tests say; what the halves of the optimum's proof speak of.
 pub mod RecurrenceTests
 pub mod Slabs
 pub mod NoBetter

@@ -1,4 +1,4 @@
--- No choice without conflicts weighs more than the value of a slab that it matches.
+-- What the proof speaks of that no choice without conflicts weighs more than the value of a slab that it matches (proofs/NoBetter.antt).
 -- Assumes nothing.
 use Rattle.std.specs.Prelude.{◌≡◌, Bool, true, ℕ}
 use Rattle.recurrence.specs.Recurrence.{Heights}

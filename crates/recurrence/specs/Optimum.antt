@@ -1,5 +1,5 @@
--- THE OPTIMUM: the choice that is recovered from the whole slab has no conflicts, it weighs the value, and no choice weighs more.
--- Assumes nothing.
+-- THE OPTIMUM and the choice that is recovered from the whole slab. proofs/Optimum.antt shows that this choice has no conflicts, that it
+-- weighs the value, and that no choice weighs more. Assumes nothing.
 use Rattle.std.specs.Prelude.{Bool, ℕ, suc}
 use Rattle.recurrence.specs.Recurrence.{Heights, value, recovered}
 

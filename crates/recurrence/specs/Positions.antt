@@ -1,5 +1,5 @@
--- From height order back to positions: the best of the points is the optimum of the points in height order.
--- Assumes nothing.
+-- From height order back to positions. proofs/Positions.antt shows that the best of the points is the optimum of the points in height
+-- order. Assumes nothing.
 use Rattle.std.specs.Prelude.{◌≡◌}
 use Rattle.std.proofs.Math.Bool.{Bool, true}
 use Prim.Native.Nat.{ℕ, ◌<◌}

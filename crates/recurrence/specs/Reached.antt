@@ -1,4 +1,4 @@
--- A choice that follows the recovery has no conflicts.
+-- What is known of a choice that follows the recovery. proofs/Reached.antt shows that it has no conflicts.
 -- Assumes nothing.
 use Rattle.std.specs.Prelude.{◌≡◌, Bool, true, false, ℕ, ◌≤◌, ◌<◌}
 use Rattle.recurrence.specs.Recurrence.{Heights, Point, Overlap, Hits}

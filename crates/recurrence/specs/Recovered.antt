@@ -1,5 +1,5 @@
--- A choice that follows the recovery weighs the value of the slab; and what the recovery does down to a cut.
--- Assumes nothing.
+-- A choice that follows the recovery, and what the recovery does down to a cut. proofs/Recovered.antt shows that the choice weighs the
+-- value of the slab. Assumes nothing.
 use Rattle.std.specs.Prelude.{◌≡◌, Bool, true, ◌&&◌, ◌||◌, ℕ, ◌≤◌, ◌<◌, ltb, leb}
 use Rattle.recurrence.specs.Recurrence.{Heights, between}
 use Rattle.recurrence.specs.Recurrence.{takes_in, recovered}

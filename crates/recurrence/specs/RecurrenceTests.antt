@@ -1,5 +1,5 @@
--- The tests of Recurrence.antt against the facts that they test, and one equation for each branch of its recursions.
--- Assumes nothing.
+-- The facts that the tests of Recurrence.antt test. proofs/RecurrenceTests.antt shows that the tests decide them, and has one equation for
+-- each branch of the recursions. Assumes nothing.
 use Rattle.std.specs.Prelude.{◌≡◌, true}
 use Prim.Native.Nat.{ℕ, ◌+◌, ◌≤◌, ◌<◌}
 use Rattle.recurrence.specs.Recurrence.{Heights, Point, Overlap}

@@ -1,5 +1,5 @@
--- A point that may be inside, and whose label reaches over no point above it in its slab, gives no more outside than inside: its cut
--- needn't be tried. For any weights, points that aren't allowed, and points that share a row.
+-- A safe point may be inside, and its label reaches over no point above it in its slab. proofs/Safe.antt shows that it gives no more
+-- outside than inside, so that its cut needn't be tried: for any weights, points that aren't allowed, and points that share a row.
 -- Assumes nothing.
 use Rattle.std.specs.Prelude.{◌≡◌, Bool, true, not, ◌&&◌, ℕ, suc, ◌≤◌, ◌<◌, ltb}
 use Rattle.recurrence.specs.Recurrence.{Heights, Overlap, every_point, reaches_over}

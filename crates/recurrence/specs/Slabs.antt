@@ -1,4 +1,4 @@
--- Facts about two or three points; and a slab of the recurrence that a choice matches, with its successors.
+-- A slab of the recurrence that a choice matches. proofs/Slabs.antt has its successors, and facts about two or three points.
 -- Assumes nothing.
 use Rattle.std.specs.Prelude.{◌≡◌, Bool, true, false, ℕ, suc, ◌≤◌, ◌<◌}
 use Rattle.recurrence.specs.Recurrence.{Heights}

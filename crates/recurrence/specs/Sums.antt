@@ -1,4 +1,4 @@
--- Sums of numbers; and a sum is the same in another order.
+-- Sums of numbers, and numbers in another order. proofs/Sums.antt shows that a sum is the same in another order.
 -- Assumes nothing.
 use Rattle.std.specs.Prelude.{◌≡◌, ℕ, zero, suc, ◌+◌, ◌<◌}
 

@@ -1,5 +1,5 @@
--- Weights that break every tie of up to 32 points: with them the best choice is the preferred one. A method of finding it, which no
--- statement about best choices needs. Assumes nothing.
+-- Weights that break every tie of up to 32 points: with them the best choice is the preferred one (proofs/TieBreak.antt). A method of
+-- finding it, which no statement about best choices needs. Assumes nothing.
 use Rattle.std.specs.Prelude.{ℕ, ◌+◌, ◌*◌, ◌-◌, ◌^◌}
 
 -- Position i of 32 adds 2^(31 - i) ...
