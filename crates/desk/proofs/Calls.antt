@@ -1,4 +1,4 @@
--- The theorems on the definitions of specs/Calls.antt. Assumes nothing.
+-- A list is marked exactly if its mark's questions are answered yes, said in facts. Assumes nothing.
 use Rattle.std.specs.Prelude.{◌≡◌, true, ◌↔◌, List, ℕ, ◌<◌}
 use Rattle.mark_questions.specs.MarkQuestions.{list_no}
 use Rattle.mark_questions.proofs.Lists.{none_list, none-mark}

@@ -1,4 +1,4 @@
--- The theorems on the definitions of specs/Desk.antt. Assumes nothing.
+-- An outcome of a load, of a verdict and of a mark fixes the answer. Assumes nothing.
 use Rattle.std.specs.Prelude.{◌≡◌, refl}
 use Rattle.std.proofs.Common.{sym, true≢false}
 use Rattle.std.proofs.Math.Option.{some}

@@ -1,4 +1,5 @@
--- The theorems on the definitions of specs/Unranked.antt. Assumes nothing.
+-- "Without a list every rank is 1 and all earlier answers hold" (document 02 (e)), at the desk: sums are counts; and a load with a list of
+-- ones is one without a list. Assumes nothing.
 use Rattle.std.specs.Prelude.{◌≡◌, refl, List, [], ◌∷◌, ◌++◌, ℕ, zero, suc, ◌<◌, length}
 use Rattle.std.proofs.Common.{sym, ap, ap₂, ◌∙◌, subst, arith}
 use Rattle.std.proofs.Math.Option.{none, some}

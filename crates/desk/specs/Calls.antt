@@ -29,7 +29,7 @@ pub data Calls : Type 0 where
 
 infixl 20 ◌and_then◌
 -- The desk that a call hands back: load_of and mark_of are the one result that the promises of a load and a mark leave (loading-exactly,
--- marking-exactly, of DeskLaws.antt).
+-- marking-exactly, of proofs/DeskLaws.antt).
 abbrev pub desk_of : Desk → Call → Desk
 desk_of d (load s r w) = (load_of d s r w).desk
 desk_of d (mark l) = (mark_of d l).desk

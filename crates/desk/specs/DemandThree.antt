@@ -1,7 +1,7 @@
 -- DEMAND 3 over document 01's section "The desk": what is claimed of every sequence of loads and marks from a fresh desk, clause by clause.
 -- Document 02 (e): "sums of ranks stand where it has the count of a list or the best count".
 -- The record at the end, DemandThree, is the whole of it. The sequence and the words are in Calls.antt; the theorem,
--- demand-three : (calls : Calls) → DemandThree calls, is the last one of DemandThreeProof.antt. Assumes nothing.
+-- demand-three : (calls : Calls) → DemandThree calls, is the last one of proofs/DemandThreeProof.antt. Assumes nothing.
 use Rattle.std.specs.Prelude.{◌≡◌, true, false, ◌↔◌, List, [], ◌∷◌, ◌++◌, ℕ, ◌+◌, ◌-◌, ◌≤◌, length, replicate}
 use Rattle.std.proofs.Math.Option.{Option, none, some}
 use Rattle.labeling.specs.Marks.{Valid}

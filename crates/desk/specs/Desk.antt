@@ -110,7 +110,7 @@ load_answer_of k = cond (eqb k 0) Accepted (Refused k)
 abbrev pub load_result : Desk → List ℕ → Option (List ℕ) → LoadAnswer → LoadResult
 load_result d s r a = record { desk = loaded_desk a d s r; answer = a }
 
--- THE ONE RESULT that the promise leaves (loading-exactly, of DeskLaws.antt), as a term.
+-- THE ONE RESULT that the promise leaves (loading-exactly, of proofs/DeskLaws.antt), as a term.
 unfoldable pub load_of : Desk → List ℕ → Option (List ℕ) → List ℕ → LoadResult
 load_of d s r w = load_result d s r (load_answer_of (load_no s r (length w)))
 
@@ -204,6 +204,6 @@ mark_answer_of d l k = cond (eqb k 0) (Marked (next_number d.last) (verdict_of d
 abbrev pub mark_result : Desk → MarkAnswer → MarkResult
 mark_result d a = record { desk = marked_desk a d; answer = a }
 
--- THE ONE RESULT that the promise leaves (marking-exactly, of DeskLaws.antt), as a term.
+-- THE ONE RESULT that the promise leaves (marking-exactly, of proofs/DeskLaws.antt), as a term.
 unfoldable pub mark_of : Desk → List ℕ → MarkResult
 mark_of d l = mark_result d (mark_answer_of d l (first_no d l))

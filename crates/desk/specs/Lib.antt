@@ -3,5 +3,5 @@ pub mod Desk
 pub mod Calls
 pub mod DemandThree
 pub mod Unranked
--- FOR PROOFS: the buffer that a load lends, and what the desk's bytes say of the sheet.
+-- FOR PROOFS: the buffer that a load lends.
 pub mod Blank

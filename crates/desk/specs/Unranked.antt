@@ -1,5 +1,5 @@
--- "Without a list every rank is 1 and all earlier answers hold" (document 02 (e)), at the desk: sums are counts; and a load with a list of
--- ones is one without a list. Assumes nothing.
+-- "Without a list every rank is 1 and all earlier answers hold" (document 02 (e)), at the desk: sums are counts. proofs/Unranked.antt shows
+-- it, and that a load with a list of ones is one without a list. Assumes nothing.
 use Rattle.std.specs.Prelude.{◌≡◌, false, List, ℕ, ◌+◌, ◌-◌, ◌≤◌}
 use Rattle.std.proofs.Math.Option.{none, some}
 use Rattle.labeling.specs.Marks.{Valid}

@@ -1,4 +1,4 @@
--- The theorems on the definitions of specs/Decimal.antt. Assumes nothing.
+-- The laws of numbers in decimal. Assumes nothing.
 use Rattle.std.specs.Prelude.{◌≡◌, refl, List, [], ◌∷◌, ◌++◌, ℕ, zero, suc, ◌+◌, ◌-◌, ◌*◌, ◌/◌, ◌%◌, ◌≤◌, ◌<◌, ltb, length, get_or}
 use Rattle.std.proofs.Common.{sym, ap, ◌∙◌, length-append, get_or-append-add, ltb-true, ltb-false, lt-ltb, le-ltb, arith}
 use Rattle.std.proofs.Math.ListN.{get_or-append}

@@ -1,6 +1,7 @@
 mod Laws
 mod PairLaws
 pub mod Writing
+-- THEOREMS: a number in decimal read back, no text is empty, the listing is what choice and margin rule say, and texts worked out by hand.
 pub mod Decimal
 pub mod NotEmpty
 pub mod ListedChoice

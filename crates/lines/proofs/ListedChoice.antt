@@ -1,4 +1,5 @@
--- The theorems on the definitions of specs/ListedChoice.antt. Assumes nothing.
+-- The listing of the plate of a choice says what the choice and the margin rule say. So what an operator reads is proved from the choice
+-- on, and not just from the plate's bytes. Assumes nothing.
 use Rattle.std.specs.Prelude.{◌≡◌, List, [], ◌∷◌, ◌++◌, get_or}
 use Rattle.std.proofs.Math.Path.{refl, ap, ap₂}
 use Rattle.std.proofs.Common.{◌∙◌, le_refl, arith}

@@ -1,4 +1,4 @@
--- The laws of numbers in decimal. Assumes nothing.
+-- What a number in decimal is. proofs/Decimal.antt shows that `decimal` gives it. Assumes nothing.
 use Rattle.std.specs.Prelude.{◌≡◌, List, ℕ, ◌-◌, ◌≤◌, ◌<◌, length, get_or}
 use Rattle.lines.specs.Text.{read_decimal}
 

@@ -5,6 +5,7 @@ pub mod Listing
 pub mod DeskLines
 pub mod Rooms
 pub mod Writing
--- THEOREMS: a number in decimal read back, no text is empty, the listing is what choice and margin rule say, and texts worked out by hand.
+-- WHAT THEOREMS SAY: a number in decimal read back, and the listing that choice and margin rule give. The theorems are in the modules of
+-- these names in proofs/.
 pub mod Decimal
 pub mod ListedChoice

@@ -1,5 +1,5 @@
--- The listing of the plate of a choice says what the choice and the margin rule say. So what an operator reads is proved from the choice
--- on, and not just from the plate's bytes. Assumes nothing.
+-- What the choice and the margin rule say of a listing. proofs/ListedChoice.antt shows that the listing of the plate of a choice says it.
+-- So what an operator reads is proved from the choice on, and not just from the plate's bytes. Assumes nothing.
 use Rattle.std.specs.Prelude.{List, [], ◌∷◌, ◌++◌}
 use Prim.Native.Nat.{ℕ, zero, suc, ◌+◌}
 use Rattle.labeling.specs.Points.{Choice, Placed, outside, placed, margin_column}

@@ -7,7 +7,7 @@ use Rattle.lines.specs.Listing.{point_lines, listing_of}
 
 -- THE PROMISE of a public call that writes the text l into the buffer o: it answers the text's length and the text stands at the start
 -- of the buffer, the bytes past it untouched; or the buffer is too short, nothing is written, and it answers 0. No text is empty
--- (NotEmpty.antt), so 0 says nothing else. A buffer of `room` bytes isn't too short.
+-- (proofs/NotEmpty.antt), so 0 says nothing else. A buffer of `room` bytes isn't too short.
 pub record Prints (room : ℕ) (l o : List ℕ) (answer : ℕ) (o' : List ℕ) : Type 0 where
   pub fits : length l ≤ room
   pub answer-is : answer ≡ cond (leb (length l) (length o)) (length l) 0

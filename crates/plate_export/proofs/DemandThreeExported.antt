@@ -1,4 +1,5 @@
--- The theorems on the definitions of specs/DemandThreeExported.antt. Assumes nothing.
+-- DEMAND 3 OF THE EXPORTED CALLS: the desk after any calls and the plates made, of which its theorem speaks, are what the exported calls
+-- hand back and write. Assumes nothing.
 use Rattle.std.specs.Prelude.{◌≡◌, refl, false, List, ℕ, ◌≤◌, ◌<◌, length, take}
 use Rattle.std.proofs.Common.{sym, ap, ◌∙◌}
 use Rattle.std.proofs.Math.Option.{Option}

@@ -1,5 +1,6 @@
--- DEMAND 3 OF THE EXPORTED CALLS. Its theorem, in desk's DemandThreeProof.antt, speaks of the desk after any calls and of the plates made.
--- These are what the exported calls hand back and write, so it is a theorem about them. Assumes nothing.
+-- DEMAND 3 OF THE EXPORTED CALLS. Its theorem, in desk's proofs/DemandThreeProof.antt, speaks of the desk after any calls and of the plates
+-- made. proofs/DemandThreeExported.antt shows that these are what the exported calls hand back and write, so that it is a theorem about
+-- them. Assumes nothing.
 use Rattle.desk.specs.Desk.{fresh, load_of, mark_of}
 use Rattle.desk.specs.declared.Desk.{Desk}
 use Rattle.desk.specs.Calls.{Call, load, mark, Calls, no_calls, ◌and_then◌}

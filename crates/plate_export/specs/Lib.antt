@@ -1,5 +1,6 @@
--- TO BE BELIEVED: what the exported calls answer, in the definitions of the calls inside. Each file ends with the facts that proofs use.
+-- TO BE BELIEVED: what the exported calls answer, in the definitions of the calls inside. The facts that proofs use are in the modules of
+-- these names in proofs/.
 pub mod Exported
 pub mod ExportedDesk
--- THEOREMS: demand 3 of the exported calls.
+-- What demand 3 of the exported calls speaks of.
 pub mod DemandThreeExported

@@ -1,4 +1,5 @@
--- The theorems on the definitions of specs/DemandTwo.antt. Assumes nothing.
+-- DEMAND 2, PROVED: `demand-two` says of any bytes that are read, and of any plate that is made, what specs/DemandTwo.antt claims.
+-- Assumes nothing.
 use Rattle.std.specs.Prelude.{List, ℕ, take}
 use Rattle.std.proofs.Math.Option.{Option}
 use Rattle.labeling.specs.Marks.{Valid}

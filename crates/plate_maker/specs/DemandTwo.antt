@@ -22,9 +22,9 @@ pub record MadeRight (s p : List ℕ) : Type 0 where
   pub accepted : plate_no p ≡ 0
   pub inside : handed_back p ≡ inside_below choice (point_count s)
 
--- THE THEOREM. Of any bytes the reader accepts just the plates of accepted sheets and valid choices, each with one sheet and one split
--- (DemandTwoReader.antt); and every plate that make and make_ranked can put into their output, by their contract, is read back to the same
--- split.
+-- WHAT THE THEOREM SAYS, `demand-two` in proofs/DemandTwo.antt. Of any bytes the reader accepts just the plates of accepted sheets and
+-- valid choices, each with one sheet and one split (plate_reader's DemandTwoReader.antt); and every plate that make and make_ranked can put
+-- into their output, by their contract, is read back to the same split.
 pub record DemandTwo : Type 0 where
   pub reads : (p : List ℕ) → ReadRight p
   pub made : (s : List ℕ) (r : Option (List ℕ)) (o w o' w' : List ℕ) (k : ℕ) → Making s r o w (Made k) o' w' → MadeRight s (take k o')

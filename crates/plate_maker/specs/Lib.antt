@@ -1,5 +1,5 @@
 -- WHAT IS PROMISED of make, make_ranked and make_with, and demand 2 above it.
 pub mod Making
 pub mod DemandTwo
--- BOOKKEEPING: a plate written from two lists, and that it is the plate of the choice.
+-- BOOKKEEPING: a plate written from two lists.
 pub mod Writing

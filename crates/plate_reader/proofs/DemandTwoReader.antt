@@ -1,4 +1,4 @@
--- The theorems on the definitions of specs/DemandTwoReader.antt. Assumes nothing.
+-- DEMAND 2, THE READER'S HALF, proved. Assumes nothing.
 use Rattle.std.specs.Prelude.{◌≡◌, true, List, ◌∷◌, ◌++◌, ℕ, ◌≤◌, get_or}
 use Rattle.std.proofs.Math.Path.{refl, ap, ap₂}
 use Rattle.std.proofs.Common.{sym, ◌∙◌, eq-eqb, arith}

@@ -1,4 +1,5 @@
--- The theorems on the definitions of specs/OutsideWalk.antt. Assumes nothing.
+-- Question 43 without a list of the outside points: the bytes are walked pair by pair, each held against the one before it. Where there
+-- are as many pairs as outside points, the walk says just what 43 asks. Assumes nothing.
 use Rattle.std.proofs.lemmas.Bool.{not-true}
 use Rattle.std.specs.Prelude.{◌≡◌, true, false, ℕ, suc, ◌*◌, ◌≤◌, ◌<◌, ltb, eqb}
 use Rattle.std.proofs.Math.Path.{refl, ap}

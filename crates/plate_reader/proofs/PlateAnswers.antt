@@ -1,4 +1,4 @@
--- The theorems on the definitions of specs/PlateAnswers.antt. Assumes nothing.
+-- An outcome of reading a plate fixes the answer. Assumes nothing.
 use Rattle.std.specs.Prelude.{◌≡◌}
 use Rattle.std.proofs.Common.{sym, true≢false}
 use Rattle.plate_reader.specs.declared.PlateAnswer.{PlateAnswer}

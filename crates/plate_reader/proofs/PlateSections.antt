@@ -1,4 +1,5 @@
--- The theorems on the definitions of specs/PlateSections.antt. Assumes nothing.
+-- What the questions of a plate ask, as facts; a plate's bytes from its sections, and its sections from the bytes that plate_of gives.
+-- Assumes nothing.
 use Rattle.std.specs.Prelude.{◌≡◌, true, not, List, [], ◌∷◌, ◌++◌, ℕ, suc, ◌+◌, ◌*◌, ◌≤◌, ◌<◌, get_or}
 use Rattle.std.proofs.Math.Path.{refl, sym, ap, ap₂}
 use Rattle.std.proofs.Common.{◌∙◌, append_assoc, length-drop, take-append-drop, drop-cons, drop-drop, arith}

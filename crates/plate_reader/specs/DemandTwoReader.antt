@@ -18,8 +18,9 @@ pub record PlateOfChoice (p : List ℕ) : Type 0 where
   pub valid : Valid (points_of sheet) choice
   pub plate : p ≡ plate_of sheet choice
 
--- THE THEOREM, of any bytes p: they are accepted exactly if they are the plate of an accepted sheet and a valid choice of it; that sheet
--- and that choice's positions are the only ones; and the inside list that is handed back is that choice's.
+-- WHAT THE THEOREM SAYS of any bytes p, `demand-two-reader` in proofs/DemandTwoReader.antt: they are accepted exactly if they are the plate
+-- of an accepted sheet and a valid choice of it; that sheet and that choice's positions are the only ones; and the inside list that is
+-- handed back is that choice's.
 pub record ReadRight (p : List ℕ) : Type 0 where
   pub accepts : (plate_no p ≡ 0) ↔ PlateOfChoice p
   pub one-sheet : (x y : PlateOfChoice p) → x.sheet ≡ y.sheet

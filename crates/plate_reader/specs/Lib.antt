@@ -2,7 +2,8 @@
 pub mod PlateQuestions
 pub mod Stretch
 pub mod PlateAnswers
--- THEOREMS: demand 2, the reader's half; what the questions ask, as facts; the numbers where rows are shared.
+-- WHAT THEOREMS SAY: demand 2, the reader's half; what the questions ask, as facts. The theorems are in the modules of these names in
+-- proofs/.
 pub mod DemandTwoReader
 pub mod PlateSections
 -- Bookkeeping for proofs: the walk by which the code answers 43.

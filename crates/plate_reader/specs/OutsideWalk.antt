@@ -1,5 +1,5 @@
--- Question 43 without a list of the outside points: the bytes are walked pair by pair, each held against the one before it. Where there
--- are as many pairs as outside points, the walk says just what 43 asks. Assumes nothing.
+-- Question 43 without a list of the outside points: the bytes are walked pair by pair, each held against the one before it.
+-- proofs/OutsideWalk.antt shows that where there are as many pairs as outside points, the walk says just what 43 asks. Assumes nothing.
 use Rattle.std.specs.Prelude.{◌≡◌, Bool, true, false, not, ◌&&◌, ℕ, ◌<◌, ltb, eqb}
 use mathlib.Core.List.{List, [], ◌∷◌}
 use Rattle.labeling.specs.Points.{Points, Choice, before, next_margin, placed_from, placed, among}

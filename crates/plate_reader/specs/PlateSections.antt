@@ -1,5 +1,5 @@
--- What the questions of a plate ask, as facts; a plate's bytes from its sections, and its sections from the bytes that plate_of gives.
--- Assumes nothing.
+-- What the questions of a plate ask, as facts, and how a plate's bytes are read. proofs/PlateSections.antt has a plate's bytes from its
+-- sections, and its sections from the bytes that plate_of gives. Assumes nothing.
 use Rattle.std.specs.Prelude.{◌≡◌, true, List, ℕ, ◌+◌, ◌*◌, ◌≤◌}
 use Rattle.std.proofs.Math.ListN.{length}
 use Rattle.format.specs.Sheet.{point_count, points_of, sheet_length}
