@@ -5,7 +5,8 @@
 ghost use Rattle.std.specs.Prelude.{◌≤◌, length};
 ghost use Rattle.streams.specs.Moves.{ReadInto, WrittenOf};
 
-use libc::{STDERR_FILENO, STDIN_FILENO, STDOUT_FILENO};
+use std::io::{Error, ErrorKind, Read, Write};
+use std::{io, str};
 
 // What reading came to: how many bytes were put at the start of the buffer, or a read that failed.
 #[derive(Clone, Copy)]
@@ -21,84 +22,108 @@ enum Output {
     Failed,
 }
 
-// One read, tried again where a signal interrupts it; 0 bytes are the end of the input. A proved loop has to end, so this one counts its
-// turns down, from a number that no run uses up.
-fn read_some(buffer: &mut [u8]) -> Input
+// FAILURES
+
+// Room for what std says of an error.
+const TEXT_ROOM: usize = 128;
+
+// The system's words for an error, out of std's, which put its number behind them: `Is a directory (os error 21)`.
+fn system_words(text: &[u8]) -> Option<&str> {
+    let (words, _) = str::from_utf8(text).ok()?.split_once(" (os error ")?;
+    Some(words)
+}
+
+// Writes a line to standard error: what failed, a colon and the error's text.
+fn fail(rt: &impl Eprint, what: &str, error: Error) {
+    let mut text = [0; TEXT_ROOM];
+    let mut room = &mut text[..];
+    let _ = write!(room, "{error}");
+    let _ = match system_words(&text) {
+        Some(words) => eprintln!(rt; "{what}: {words}"),
+        None => eprintln!(rt; "{what}: {error}"),
+    };
+}
+
+// READING
+
+// One read, tried again where a signal interrupts it; 0 bytes are the end of the input. A proved loop has to end, so this one has a number
+// of turns, which no run uses up. Where the read fails, a line on standard error says why.
+fn read_some(rt: &(impl io::Input + Eprint), buffer: &mut [u8]) -> Input
     ensures { ReadInto buffer.new result }
 {
-    let mut turns = u64::MAX;
-    while turns > 0 {
-        let got = libc::read(STDIN_FILENO, buffer);
-        if got >= 0 {
-            return Input::Read(io::count(got, buffer));
+    let mut input = rt.reader();
+    for _ in 0..u64::MAX {
+        match input.read(buffer) {
+            Ok(got) => return Input::Read(got),
+            Err(error) => {
+                if error.kind() != ErrorKind::Interrupted {
+                    fail(rt, "standard input", error);
+                    return Input::Failed;
+                }
+            }
         }
-        if os::errno() != libc::EINTR {
-            return Input::Failed;
-        }
-        turns -= 1;
     }
+    fail(rt, "standard input", Error::from(ErrorKind::Interrupted));
     Input::Failed
 }
 
 // Reads standard input until the buffer is full or the input ends. Where a read fails, a line on standard error says why.
-pub fn read_input(buffer: &mut [u8]) -> Input
+pub fn read_input(rt: &(impl io::Input + Eprint), buffer: &mut [u8]) -> Input
     ensures { ReadInto buffer.new result }
 {
     let mut done = 0;
     while done < buffer.len() {
-        match read_some(&mut buffer[done..]) {
+        match read_some(rt, &mut buffer[done..]) {
             Input::Read(more) => {
                 if more == 0 {
                     return Input::Read(done);
                 }
                 done += more;
             }
-            Input::Failed => {
-                os::fail(b"standard input");
-                return Input::Failed;
-            }
+            Input::Failed => return Input::Failed,
         }
     }
     Input::Read(done)
 }
 
-// One write, tried again where a signal interrupts it; its turns are counted down as in read_some.
-fn write_some(text: &[u8]) -> Output
+// WRITING
+
+// One write, tried again where a signal interrupts it; its turns are counted as in read_some. Where the write fails, a line on standard
+// error says why.
+fn write_some(rt: &(impl Print + Eprint), text: &[u8]) -> Output
     ensures { WrittenOf text.now result }
 {
-    let mut turns = u64::MAX;
-    while turns > 0 {
-        let put = libc::write(STDOUT_FILENO, text);
-        if put >= 0 {
-            return Output::Written(io::count(put, text));
+    for _ in 0..u64::MAX {
+        match rt.write_some(text) {
+            Ok(put) => return Output::Written(put),
+            Err(error) => {
+                if error.kind() != ErrorKind::Interrupted {
+                    fail(rt, "standard output", error);
+                    return Output::Failed;
+                }
+            }
         }
-        if os::errno() != libc::EINTR {
-            return Output::Failed;
-        }
-        turns -= 1;
     }
+    fail(rt, "standard output", Error::from(ErrorKind::Interrupted));
     Output::Failed
 }
 
 // Writes the text to standard output and answers how many of its bytes were written: all, unless a write failed, and then a line on
-// standard error says why. A write that takes no byte counts as one that failed; errno doesn't speak of it.
-pub fn write_output(text: &[u8]) -> usize
+// standard error says why. A write that takes no byte counts as one that failed.
+pub fn write_output(rt: &(impl Print + Eprint), text: &[u8]) -> usize
     ensures { result ≤ length text.now }
 {
     let mut done = 0;
     while done < text.len() {
-        match write_some(&text[done..]) {
+        match write_some(rt, &text[done..]) {
             Output::Written(more) => {
                 if more == 0 {
-                    io::write_all(STDERR_FILENO, b"standard output: a write took no bytes\n");
+                    let _ = eprintln!(rt; "standard output: a write took no bytes");
                     return done;
                 }
                 done += more;
             }
-            Output::Failed => {
-                os::fail(b"standard output");
-                return done;
-            }
+            Output::Failed => return done,
         }
     }
     done
