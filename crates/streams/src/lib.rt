@@ -1,12 +1,13 @@
 // Standard input and output for a program: a short or interrupted read or write goes on, and one that fails gets a line on standard error.
-// No contract can speak of what an operating system read or wrote, so these only limit the counts.
+// No contract can speak of what an operating system read or wrote, so these only limit the counts. Of an input whose bytes are known, as a
+// slice's, they say too that what was read are its next bytes.
 #![tactic(auto)]
 
 ghost use Rattle.std.specs.Prelude.{◌≤◌, length};
-ghost use Rattle.streams.specs.Moves.{ReadInto, WrittenOf};
+ghost use Rattle.streams.specs.Moves.{ReadInto, Takes, WrittenOf};
 
 use std::io::{Error, ErrorKind, Read, Write};
-use std::{io, str};
+use std::str;
 
 // What reading came to: how many bytes were put at the start of the buffer, or a read that failed.
 #[derive(Clone, Copy)]
@@ -48,10 +49,10 @@ fn fail(rt: &impl Eprint, what: &str, error: Error) {
 
 // One read, tried again where a signal interrupts it; 0 bytes are the end of the input. A proved loop has to end, so this one has a number
 // of turns, which no run uses up. Where the read fails, a line on standard error says why.
-fn read_some(rt: &(impl io::Input + Eprint), buffer: &mut [u8]) -> Input
-    ensures { ReadInto buffer.new result }
+fn read_some<R: Read>(rt: &impl Eprint, input: &mut R, buffer: &mut [u8]) -> Input
+    ensures into { ReadInto buffer.new result }
+    ensures bytes { Takes (R.remaining input.old) (R.remaining input.new) buffer.new result }
 {
-    let mut input = rt.reader();
     for _ in 0..u64::MAX {
         match input.read(buffer) {
             Ok(got) => return Input::Read(got),
@@ -67,13 +68,15 @@ fn read_some(rt: &(impl io::Input + Eprint), buffer: &mut [u8]) -> Input
     Input::Failed
 }
 
-// Reads standard input until the buffer is full or the input ends. Where a read fails, a line on standard error says why.
-pub fn read_input(rt: &(impl io::Input + Eprint), buffer: &mut [u8]) -> Input
-    ensures { ReadInto buffer.new result }
+// Reads a program's input, which is standard input but in a test, until the buffer is full or the input ends. Where a read fails, a line on
+// standard error says why.
+pub fn read_input<R: Read>(rt: &impl Eprint, input: &mut R, buffer: &mut [u8]) -> Input
+    ensures into { ReadInto buffer.new result }
+    ensures bytes { Takes (R.remaining input.old) (R.remaining input.new) buffer.new result }
 {
     let mut done = 0;
     while done < buffer.len() {
-        match read_some(rt, &mut buffer[done..]) {
+        match read_some(rt, input, &mut buffer[done..]) {
             Input::Read(more) => {
                 if more == 0 {
                     return Input::Read(done);
