@@ -1,6 +1,8 @@
 -- What the contracts cite: the kinds that are known, with the parts of their calls, and what was read. No contract can speak of what an
 -- operating system read, so all that isn't a whole call says nothing more. Assumes nothing.
-use Rattle.std.specs.Prelude.{ℕ, ◌+◌, ◌*◌, ◌≡◌, cond, List, eqb, ltb}
+use Rattle.std.specs.Prelude.{ℕ, ◌+◌, ◌*◌, ◌/◌, ◌%◌, ◌≡◌, cond, List, [], ◌∷◌, ◌++◌, take, eqb, ltb}
+use Rattle.std.specs.Io.KnownBytes.{Consumes}
+use Rattle.std.specs.declared.option.Option.{Option}
 use Rattle.io.specs.Counts.{IsPrefixLen}
 use Rattle.script.specs.declared.Kinds.{Kinds}
 use Rattle.script.specs.declared.Kinds.TheVariants.{Desk, All}
@@ -8,6 +10,8 @@ use Rattle.script.specs.declared.Part.{Part}
 use Rattle.script.specs.declared.Part.TheVariants.{Absent, Sized}
 use Rattle.script.specs.declared.Form.{Form}
 use Rattle.script.specs.declared.Form.TheVariants.{Parts, Unknown}
+use Rattle.script.specs.declared.Start.{Start}
+use Rattle.script.specs.declared.Start.TheVariants.{Kind}
 use Rattle.script.specs.declared.PartRead.{PartRead}
 use Rattle.script.specs.declared.PartRead.TheVariants.{Whole, Short}
 use Rattle.script.specs.declared.Call.{Call}
@@ -81,3 +85,48 @@ CallIn kinds first second (Known kind n m) = BothStand (form_of kinds kind) firs
 CallIn kinds first second Bad = Unit {0}
 CallIn kinds first second Call.End = Unit {0}
 CallIn kinds first second Call.Failed = Unit {0}
+
+-- WHAT IS TAKEN of an input whose bytes are known: a whole call's bytes, and no more. `old` and `new` are the bytes that the input has left
+-- before and after
+
+-- the bytes of a part of n bytes: its length, low byte first, and those in the buffer; none, if the call doesn't have it
+abbrev pub part_bytes : Part → List ℕ → ℕ → List ℕ
+part_bytes Absent buffer n = []
+part_bytes Sized buffer n = n % 256 ∷ n / 256 ∷ take n buffer
+
+-- the bytes of both parts
+abbrev pub parts_bytes : Form → List ℕ → List ℕ → ℕ → ℕ → List ℕ
+parts_bytes (Parts a b) first second n m = part_bytes a first n ++ part_bytes b second m
+parts_bytes Unknown first second n m = []
+
+-- a call's first byte
+abbrev pub KindTaken : Option (List ℕ) → Option (List ℕ) → Start → Type 0
+KindTaken old new (Kind kind) = Consumes old new (kind ∷ [])
+KindTaken old new Start.End = Unit {0}
+KindTaken old new Start.Failed = Unit {0}
+
+-- a whole part's bytes without its length
+abbrev pub BytesTaken : Option (List ℕ) → Option (List ℕ) → List ℕ → PartRead → Type 0
+BytesTaken old new buffer (Whole n) = Consumes old new (take n buffer)
+BytesTaken old new buffer Short = Unit {0}
+BytesTaken old new buffer PartRead.Failed = Unit {0}
+
+-- a whole part's bytes
+abbrev pub PartTaken : Option (List ℕ) → Option (List ℕ) → Part → List ℕ → PartRead → Type 0
+PartTaken old new part buffer (Whole n) = Consumes old new (part_bytes part buffer n)
+PartTaken old new part buffer Short = Unit {0}
+PartTaken old new part buffer PartRead.Failed = Unit {0}
+
+-- what follows a whole call's first byte
+abbrev pub PartsTaken : Option (List ℕ) → Option (List ℕ) → Form → List ℕ → List ℕ → Call → Type 0
+PartsTaken old new form first second (Known kind n m) = Consumes old new (parts_bytes form first second n m)
+PartsTaken old new form first second Bad = Unit {0}
+PartsTaken old new form first second Call.End = Unit {0}
+PartsTaken old new form first second Call.Failed = Unit {0}
+
+-- a whole call
+abbrev pub CallTaken : Option (List ℕ) → Option (List ℕ) → Kinds → List ℕ → List ℕ → Call → Type 0
+CallTaken old new kinds first second (Known kind n m) = Consumes old new (kind ∷ parts_bytes (form_of kinds kind) first second n m)
+CallTaken old new kinds first second Bad = Unit {0}
+CallTaken old new kinds first second Call.End = Unit {0}
+CallTaken old new kinds first second Call.Failed = Unit {0}

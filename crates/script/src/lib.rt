@@ -5,7 +5,9 @@
 ghost use Rattle.std.specs.Prelude.{◌≡◌, ◌≤◌, length};
 ghost use Rattle.script.specs.Calls.{desk_form, all_form, form_of, one_part, two_parts};
 ghost use Rattle.script.specs.Calls.{CallIn, CallOf, PartIn, PartOf, number_in, part_of};
+ghost use Rattle.script.specs.Calls.{BytesTaken, CallTaken, KindTaken, PartTaken, PartsTaken};
 
+use std::io::Read;
 use streams::{Input, read_input};
 
 // Room for a part of any length.
@@ -80,6 +82,7 @@ fn two_parts() -> Form
 }
 
 // The calls on a desk.
+#[tactic(auto, unfolding(crate::specs::Calls::desk_form))]
 fn desk_form(kind: u8) -> Form
     ensures { result ≡ desk_form kind }
 {
@@ -92,6 +95,7 @@ fn desk_form(kind: u8) -> Form
 }
 
 // The calls on a desk, and those without one.
+#[tactic(auto, unfolding(crate::specs::Calls::all_form))]
 fn all_form(kind: u8) -> Form
     ensures { result ≡ all_form kind }
 {
@@ -121,9 +125,11 @@ fn number_in(low: u8, high: u8) -> u16
     low as u16 + 256 * high as u16
 }
 
-fn read_kind() -> Start {
+fn read_kind<R: Read>(rt: &impl Eprint, input: &mut R) -> Start
+    ensures { KindTaken (R.remaining input.old) (R.remaining input.new) result }
+{
     let mut bytes = [0u8; 1];
-    let Input::Read(n) = read_input(&mut bytes) else {
+    let Input::Read(n) = read_input(rt, input, &mut bytes) else {
         return Start::Failed;
     };
     if n == 0 {
@@ -133,6 +139,7 @@ fn read_kind() -> Start {
 }
 
 // What became of a part of `count` bytes, of which `got` were there.
+#[tactic(auto, unfolding(crate::specs::Calls::part_of))]
 fn part_of(count: u16, got: usize) -> PartRead
     ensures { result ≡ part_of count got }
 {
@@ -144,49 +151,61 @@ fn part_of(count: u16, got: usize) -> PartRead
 }
 
 // A part's bytes, as many as its length says.
-fn read_bytes(count: u16, buffer: &mut [u8]) -> PartRead
+#[tactic(auto, unfolding(crate::specs::Calls::part_of))]
+fn read_bytes<R: Read>(rt: &impl Eprint, input: &mut R, count: u16, buffer: &mut [u8]) -> PartRead
     requires { count ≤ length buffer.old }
-    ensures { PartOf count buffer.new result }
+    ensures part { PartOf count buffer.new result }
+    ensures bytes { BytesTaken (R.remaining input.old) (R.remaining input.new) buffer.new result }
 {
     let n = count as usize;
-    let Input::Read(got) = read_input(&mut buffer[..n]) else {
+    let Input::Read(got) = read_input(rt, input, &mut buffer[..n]) else {
         return PartRead::Failed;
     };
     part_of(count, got)
 }
 
 // A part's length and its bytes.
-fn read_sized(buffer: &mut [u8; PART_ROOM]) -> PartRead
-    ensures { PartIn Part.Sized buffer.new result }
+fn read_sized<R: Read>(rt: &impl Eprint, input: &mut R, buffer: &mut [u8; PART_ROOM]) -> PartRead
+    ensures part { PartIn Part.Sized buffer.new result }
+    ensures bytes { PartTaken (R.remaining input.old) (R.remaining input.new) Part.Sized buffer.new result }
 {
     let mut bytes = [0u8; 2];
-    let Input::Read(n) = read_input(&mut bytes) else {
+    let Input::Read(n) = read_input(rt, input, &mut bytes) else {
         return PartRead::Failed;
     };
     if n < 2 {
         return PartRead::Short;
     }
-    read_bytes(number_in(bytes[0], bytes[1]), buffer)
+    read_bytes(rt, input, number_in(bytes[0], bytes[1]), buffer)
 }
 
 // A part, of which nothing is read if the call doesn't have it.
-fn read_part(part: Part, buffer: &mut [u8; PART_ROOM]) -> PartRead
-    ensures { PartIn part buffer.new result }
+fn read_part<R: Read>(
+    rt: &impl Eprint,
+    input: &mut R,
+    part: Part,
+    buffer: &mut [u8; PART_ROOM],
+) -> PartRead
+    ensures part { PartIn part buffer.new result }
+    ensures bytes { PartTaken (R.remaining input.old) (R.remaining input.new) part buffer.new result }
 {
     match part {
         Part::Absent => PartRead::Whole(0),
-        Part::Sized => read_sized(buffer),
+        Part::Sized => read_sized(rt, input, buffer),
     }
 }
 
 // The rest of a call whose kind was read. Nothing is read of one that isn't known.
-fn read_parts(
+fn read_parts<R: Read>(
+    rt: &impl Eprint,
+    input: &mut R,
     kind: u8,
     form: Form,
     first: &mut [u8; PART_ROOM],
     second: &mut [u8; PART_ROOM],
 ) -> Call
-    ensures { CallOf kind form first.new second.new result }
+    ensures call { CallOf kind form first.new second.new result }
+    ensures bytes { PartsTaken (R.remaining input.old) (R.remaining input.new) form first.new second.new result }
 {
     let Form::Parts {
         first: a,
@@ -195,8 +214,8 @@ fn read_parts(
     else {
         return Call::Bad;
     };
-    match read_part(a, first) {
-        PartRead::Whole(n) => match read_part(b, second) {
+    match read_part(rt, input, a, first) {
+        PartRead::Whole(n) => match read_part(rt, input, b, second) {
             PartRead::Whole(m) => Call::Known {
                 kind,
                 first: n,
@@ -211,11 +230,18 @@ fn read_parts(
 }
 
 // The next call. Whether its kind is known is asked before anything more is read.
-pub fn read_call(kinds: Kinds, first: &mut [u8; PART_ROOM], second: &mut [u8; PART_ROOM]) -> Call
-    ensures { CallIn kinds first.new second.new result }
+pub fn read_call<R: Read>(
+    rt: &impl Eprint,
+    input: &mut R,
+    kinds: Kinds,
+    first: &mut [u8; PART_ROOM],
+    second: &mut [u8; PART_ROOM],
+) -> Call
+    ensures call { CallIn kinds first.new second.new result }
+    ensures bytes { CallTaken (R.remaining input.old) (R.remaining input.new) kinds first.new second.new result }
 {
-    match read_kind() {
-        Start::Kind(kind) => read_parts(kind, form_of(kinds, kind), first, second),
+    match read_kind(rt, input) {
+        Start::Kind(kind) => read_parts(rt, input, kind, form_of(kinds, kind), first, second),
         Start::End => Call::End,
         Start::Failed => Call::Failed,
     }
