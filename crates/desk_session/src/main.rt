@@ -4,6 +4,6 @@
 
 use script::Kinds;
 
-fn main() {
-    session::run(Kinds::Desk);
+fn main(rt: HostRuntime) {
+    session::run(&rt, &mut rt.stdin(), Kinds::Desk);
 }

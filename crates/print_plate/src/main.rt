@@ -28,10 +28,10 @@ fn put_text(sheet: &[u8], text: &mut [u8]) -> usize
 }
 
 // Writes the text to standard output. What it asks says that the text is the sheet's.
-fn write_text(sheet: &[u8], text: &[u8])
+fn write_text(rt: &(impl Print + Eprint), sheet: &[u8], text: &[u8])
     requires { text.now ≡ printed_text sheet.now }
 {
-    write_output(text);
+    write_output(rt, text);
 }
 
 fn text_room() -> [u8; TEXT_ROOM]
@@ -40,16 +40,16 @@ fn text_room() -> [u8; TEXT_ROOM]
     [0; TEXT_ROOM]
 }
 
-fn print_plate_of(sheet: &[u8]) {
+fn print_plate_of(rt: &(impl Print + Eprint), sheet: &[u8]) {
     let mut text = text_room();
     let n = put_text(sheet, &mut text);
-    write_text(sheet, &text[..n]);
+    write_text(rt, sheet, &text[..n]);
 }
 
-fn main() {
+fn main(rt: HostRuntime) {
     let mut bytes = io::buffer();
-    let Input::Read(n) = read_input(&mut bytes) else {
+    let Input::Read(n) = read_input(&rt, &mut rt.stdin(), &mut bytes) else {
         return;
     };
-    print_plate_of(&bytes[..n]);
+    print_plate_of(&rt, &bytes[..n]);
 }

@@ -1,5 +1,5 @@
-// Reads a script from standard input, call by call. A call is a kind byte and its parts, each a two-byte length, low byte first, and that
-// many bytes. `form_of` says which kinds a program knows, and which parts a call of each kind has.
+// Reads a script, call by call. A call is a kind byte and its parts, each a two-byte length, low byte first, and that many bytes. `form_of`
+// says which kinds a program knows, and which parts a call of each kind has.
 #![tactic(auto)]
 
 ghost use Rattle.std.specs.Prelude.{◌≡◌, ◌≤◌, length};

@@ -10,6 +10,7 @@ use format::WORKSPACE_CELLS;
 use lines::{LINE_ROOM, load_line, mark_line};
 use plates::{run_plate, run_ranked_sheet, run_sheet};
 use script::{Call, Kinds, read_call};
+use std::io::Read;
 use streams::write_output;
 
 mod plates;
@@ -87,21 +88,34 @@ fn run_call(desk: Desk, kind: u8, first: &[u8], second: &[u8], line: &mut [u8]) 
 }
 
 // Writes a line to standard output: whether all of it was written. What it asks says that the line is the call's.
-fn write_line(desk: Desk, kind: u8, first: &[u8], second: &[u8], line: &[u8]) -> bool
+fn write_line(
+    rt: &(impl Print + Eprint),
+    desk: Desk,
+    kind: u8,
+    first: &[u8],
+    second: &[u8],
+    line: &[u8],
+) -> bool
     requires { line.now ≡ (desk_call desk kind first.now second.now).text }
 {
-    write_output(line) == line.len()
+    write_output(rt, line) == line.len()
 }
 
 // Runs a call on the desk and writes its line.
-fn answer_on_desk(desk: Desk, kind: u8, first: &[u8], second: &[u8]) -> Answered
+fn answer_on_desk(
+    rt: &(impl Print + Eprint),
+    desk: Desk,
+    kind: u8,
+    first: &[u8],
+    second: &[u8],
+) -> Answered
     ensures { result.desk ≡ (desk_call desk kind first.now second.now).desk }
 {
     let mut line = [0u8; LINE_ROOM];
     let ran = run_call(desk, kind, first, second, &mut line);
     let n = ran.length;
     let after = ran.desk;
-    let written = write_line(desk, kind, first, second, &line[..n]);
+    let written = write_line(rt, desk, kind, first, second, &line[..n]);
     Answered {
         desk: after,
         written,
@@ -110,31 +124,31 @@ fn answer_on_desk(desk: Desk, kind: u8, first: &[u8], second: &[u8]) -> Answered
 
 // Runs a call and writes its line. Kind 11 is a sheet, which is made into a plate, kind 12 a plate, which is read, kind 13 a sheet and a
 // rank list, with which it is made into a plate; every other kind is a call on the desk.
-fn answer(desk: Desk, kind: u8, first: &[u8], second: &[u8]) -> Answered
+fn answer(rt: &(impl Print + Eprint), desk: Desk, kind: u8, first: &[u8], second: &[u8]) -> Answered
     ensures { result.desk ≡ desk_after_call desk kind first.now second.now }
 {
     match kind {
         11 => Answered {
             desk,
-            written: run_sheet(first),
+            written: run_sheet(rt, first),
         },
         12 => Answered {
             desk,
-            written: run_plate(first),
+            written: run_plate(rt, first),
         },
         13 => Answered {
             desk,
-            written: run_ranked_sheet(first, second),
+            written: run_ranked_sheet(rt, first, second),
         },
-        _ => answer_on_desk(desk, kind, first, second),
+        _ => answer_on_desk(rt, desk, kind, first, second),
     }
 }
 
-// Runs the script on standard input on a fresh desk and writes a line for each call. At a call that is cut short, or of none of these
-// kinds, it writes `bad call` and stops. It stops too where a read or a write fails, whose line is on standard error. The count of turns
-// is there so that the loop ends for certain: no script has as many calls. The desk that the calls leave is handed back: which calls they
-// are, no contract can say.
-pub fn run(kinds: Kinds) -> Desk
+// Runs the script on a program's input, which is standard input but in a test, on a fresh desk and writes a line for each call. At a
+// call that is cut short, or of none of these kinds, it writes `bad call` and stops. It stops too where a read or a write fails, whose line
+// is on standard error. The count of turns is there so that the loop ends for certain: no script has as many calls. The desk that the calls
+// leave is handed back: which calls they are, no contract can say.
+pub fn run(rt: &(impl Print + Eprint), input: &mut impl Read, kinds: Kinds) -> Desk
     ensures { Reached result }
 {
     let mut first = io::large_buffer();
@@ -142,7 +156,7 @@ pub fn run(kinds: Kinds) -> Desk
     let mut desk = Desk::new();
     let mut turns = u64::MAX;
     while turns > 0 {
-        match read_call(kinds, &mut first, &mut second) {
+        match read_call(rt, input, kinds, &mut first, &mut second) {
             Call::Known {
                 kind,
                 first: first_length,
@@ -150,14 +164,14 @@ pub fn run(kinds: Kinds) -> Desk
             } => {
                 let n = first_length as usize;
                 let m = second_length as usize;
-                let answered = answer(desk, kind, &first[..n], &second[..m]);
+                let answered = answer(rt, desk, kind, &first[..n], &second[..m]);
                 desk = answered.desk;
                 if !answered.written {
                     return desk;
                 }
             }
             Call::Bad => {
-                write_output(b"bad call\n");
+                write_output(rt, b"bad call\n");
                 return desk;
             }
             Call::End => return desk,
