@@ -5,8 +5,5 @@ use lib.Seq.{length-take-le}
 use Rattle.lines.proofs.Writing.{prints-put}
 use Rattle.lines.proofs.refusal_line.Goals as goal
 
-pub slice_bounds-fit-end : goal.slice_bounds-fit-end
-slice_bounds-fit-end c = sym (length-take-le _ _ (array-share-prefix-room c.before.before))
-
 pub returns : goal.returns
 returns c = prints-put c.put_refusal-length.ensures c.fit.ensures

@@ -8,9 +8,6 @@ use Rattle.lines.specs.Listing.{columns_used}
 use Rattle.lines.proofs.PairLaws.{columns-more, columns-end}
 use Rattle.lines.proofs.margins.columns_used.Goals as goal
 
-pub loop-at-init : goal.loop-at-init
-loop-at-init c = (search rules, omega arith)
-
 pub loop-at-preserved : goal.loop-at-preserved
 loop-at-preserved c =
     let p = c.args.pairs.now in

@@ -7,9 +7,6 @@ use Rattle.lines.specs.Listing.{margin_of}
 use Rattle.lines.proofs.PairLaws.{margin-found, margin-more, margin-end}
 use Rattle.lines.proofs.margins.margin_of.Goals as goal
 
-pub loop-at-init : goal.loop-at-init
-loop-at-init c = (search rules, refl)
-
 pub returns-then-pairs-at : goal.returns-then-pairs-at
 returns-then-pairs-at c =
     let a = c.args in

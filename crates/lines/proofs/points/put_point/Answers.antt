@@ -20,19 +20,19 @@ returns c =
     let a = c.args in
     let p = a.plate.now in
     let room : a.at + point_room ≤ length a.text.now =
-    c.requires.0 in
+    c.requires.point_room_in_bounds in
     let call : c.call_number.result
     ≡ call_number p a.position =
     c.call_number.ensures in
     let inside : held a.inside.now a.position ≡ among a.position (inside_list p) =
     flags-hold a.inside.now (inside_list p)
-    c.requires.1.0
+    c.requires.inside_value.0
     a.position c.ranges.position.fits in
     put-more (omega arith)
     (put-more (omega arith)
     (rw call at c.put_decimal-called.ensures)
     (rw (
       inside,
-      c.requires.1.1,
+      c.requires.inside_value.1,
     ) at c.put_place-placed.ensures))
     c.put_end.ensures
