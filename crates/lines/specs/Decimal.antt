@@ -1,5 +1,5 @@
 -- What a number in decimal is. proofs/Decimal.antt shows that `decimal` gives it. Assumes nothing.
-use Rattle.std.specs.Prelude.{◌≡◌, List, ℕ, ◌-◌, ◌≤◌, ◌<◌, length, get_or}
+use Rattle.std.specs.Prelude.{◌≡◌, List, ℕ, ◌≤◌, ◌<◌, length, get_or}
 use Rattle.lines.specs.Text.{read_decimal}
 
 -- THE NUMBER IN DECIMAL: the list l is the number n, read back, in digits alone and without leading zeros.

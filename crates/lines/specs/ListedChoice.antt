@@ -1,7 +1,7 @@
 -- What the choice and the margin rule say of a listing. proofs/ListedChoice.antt shows that the listing of the plate of a choice says it.
 -- So what an operator reads is proved from the choice on, and not just from the plate's bytes. Assumes nothing.
 use Rattle.std.specs.Prelude.{List, [], ◌∷◌, ◌++◌}
-use Prim.Native.Nat.{ℕ, zero, suc, ◌+◌}
+use Prim.Native.Nat.{ℕ, zero, suc}
 use Rattle.labeling.specs.Points.{Choice, Placed, outside, placed, margin_column}
 use Rattle.labeling.specs.Best.{count}
 use Rattle.format.specs.Sheet.{point_count, call_number, points_of}

@@ -1,7 +1,4 @@
 -- `lines::marked_line` meets its contract. Assumes nothing.
-use borrow.Author.Rules.{rules}
-use mathlib.Core.Path.{sym}
-use lib.Seq.{length-take-le}
 use Rattle.lines.proofs.Writing.{prints-put}
 use Rattle.lines.proofs.marked_line.Goals as goal
 

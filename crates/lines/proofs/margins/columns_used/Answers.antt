@@ -1,10 +1,8 @@
 -- `lines::margins::columns_used` meets its contract. Assumes nothing.
 use borrow.Author.Rules.{rules}
 use mathlib.Core.Path.{◌≡◌}
-use Prim.Native.Nat.{◌+◌, ◌-◌, ◌≤◌, max}
-use lib.ListN.{length, get_or, drop}
-use native.Mathlib.Omega.{arith}
-use Rattle.lines.specs.Listing.{columns_used}
+use Prim.Native.Nat.{◌+◌, max}
+use lib.ListN.{get_or}
 use Rattle.lines.proofs.PairLaws.{columns-more, columns-end}
 use Rattle.lines.proofs.margins.columns_used.Goals as goal
 

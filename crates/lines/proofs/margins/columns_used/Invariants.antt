@@ -1,10 +1,7 @@
-use borrow.Author.Rules.{rules}
 use mathlib.Core.Path.{◌≡◌}
-use Prim.Native.Nat.{◌+◌, ◌-◌, ◌≤◌, max}
-use lib.ListN.{length, get_or, drop}
-use native.Mathlib.Omega.{arith}
+use Prim.Native.Nat.{◌-◌, ◌≤◌, max}
+use lib.ListN.{length, drop}
 use Rattle.lines.specs.Listing.{columns_used}
-use Rattle.lines.proofs.PairLaws.{columns-more, columns-end}
 use Rattle.lines.proofs.margins.columns_used.Given as goal
 
 abbrev pub invariant-loop-at : goal.invariant-loop-at

@@ -1,9 +1,6 @@
 -- `lines::margins::margin_of` meets its contract. Assumes nothing.
 use borrow.Author.Rules.{rules}
-use mathlib.Core.Path.{◌≡◌, refl, sym, ◌∙◌}
-use Prim.Native.Nat.{◌-◌, ◌≤◌}
-use lib.ListN.{length, drop}
-use Rattle.lines.specs.Listing.{margin_of}
+use mathlib.Core.Path.{sym, ◌∙◌}
 use Rattle.lines.proofs.PairLaws.{margin-found, margin-more, margin-end}
 use Rattle.lines.proofs.margins.margin_of.Goals as goal
 

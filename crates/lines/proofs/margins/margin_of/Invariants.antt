@@ -1,9 +1,7 @@
-use borrow.Author.Rules.{rules}
-use mathlib.Core.Path.{◌≡◌, refl, sym, ◌∙◌}
+use mathlib.Core.Path.{◌≡◌}
 use Prim.Native.Nat.{◌-◌, ◌≤◌}
 use lib.ListN.{length, drop}
 use Rattle.lines.specs.Listing.{margin_of}
-use Rattle.lines.proofs.PairLaws.{margin-found, margin-more, margin-end}
 use Rattle.lines.proofs.margins.margin_of.Given as goal
 
 abbrev pub invariant-loop-at : goal.invariant-loop-at

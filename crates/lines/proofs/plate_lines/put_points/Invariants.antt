@@ -1,14 +1,9 @@
-use borrow.Author.Rules.{rules}
-use mathlib.Core.Path.{◌≡◌, ap, ◌∙◌}
-use Prim.Native.Nat.{◌+◌, ◌-◌, ◌≤◌, ◌<◌}
+use mathlib.Core.Path.{◌≡◌}
+use Prim.Native.Nat.{◌-◌, ◌≤◌}
 use lib.ListN.{length}
-use native.Mathlib.Omega.{arith}
-use Rattle.format.specs.Sheet.{point_count}
-use Rattle.clash.specs.ChoiceFlags.{flags_of}
-use Rattle.lines.specs.Rooms.{points_room, most_points}
+use Rattle.lines.specs.Rooms.{points_room}
 use Rattle.lines.specs.Listing.{point_lines}
 use Rattle.lines.specs.Writing.{Put}
-use Rattle.lines.proofs.Laws.{point-none, point-more}
 use Rattle.lines.proofs.plate_lines.put_points.Given as goal
 
 abbrev pub invariant-loop-position : goal.invariant-loop-position

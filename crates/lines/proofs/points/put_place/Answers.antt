@@ -1,5 +1,4 @@
 -- `lines::points::put_place` meets its contract. Assumes nothing.
-use borrow.Author.Rules.{rules}
 use mathlib.Core.Path.{◌≡◌}
 use Rattle.clash.specs.ChoiceFlags.{held}
 use Rattle.lines.specs.Listing.{margin_of}

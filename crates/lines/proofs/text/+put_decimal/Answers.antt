@@ -1,5 +1,5 @@
 -- `lines::text::put_decimal` meets its contract. Assumes nothing.
-use Rattle.std.proofs.Common.{◌≤◌, ◌<◌, arith}
+use Rattle.std.proofs.Common.{◌≤◌, arith}
 use Rattle.lines.proofs.Decimal.{decimal-small, decimal-length, one-longer}
 use Rattle.lines.proofs.Writing.{put-looser}
 use Rattle.lines.proofs.Laws.{put-longer}

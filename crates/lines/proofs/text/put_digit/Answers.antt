@@ -1,5 +1,4 @@
 -- `lines::text::put_digit` meets its contract. Assumes nothing.
-use borrow.Author.Rules.{rules}
 use mathlib.Core.Path.{◌≡◌}
 use Rattle.lines.specs.Text.{digit}
 use Rattle.lines.proofs.Writing.{put_one}

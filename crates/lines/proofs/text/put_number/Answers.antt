@@ -1,5 +1,4 @@
 -- `lines::text::put_number` meets its contract. Assumes nothing.
-use borrow.Author.Rules.{rules}
 use native.Mathlib.Omega.{arith}
 use Rattle.lines.specs.Text.{spaced}
 use Rattle.lines.proofs.Writing.{put-more}

@@ -1,5 +1,4 @@
 -- `lines::text::put_word` meets its contract. Assumes nothing.
-use borrow.Author.Rules.{rules}
 use mathlib.Core.Path.{refl, ◌∙◌}
 use native.Mathlib.Nat.{le_refl}
 use Rattle.format.proofs.Written.{written-fits}
