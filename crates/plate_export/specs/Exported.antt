@@ -1,7 +1,7 @@
 -- What the exported calls answer, in the definitions of the calls inside. Assumes nothing.
 use Rattle.std.specs.Prelude.{◌≡◌, List, ℕ, length}
 use Rattle.std.proofs.Math.Option.{Option}
-use Rattle.plate_reader.specs.PlateQuestions.{inside_start, plate_no, handed_back_at}
+use Rattle.plate_reader.specs.PlateQuestions.{plate_no, handed_back_at}
 use Rattle.plate_reader.specs.PlateAnswers.{plate_outcome_of}
 use Rattle.format.specs.MakingQuestions.{making_no, workspace_after, output_after}
 use Rattle.plate_maker.specs.Making.{make_outcome_of}

@@ -1,5 +1,4 @@
 -- `plate_export::desk_mark` meets its contract. Assumes nothing.
-use borrow.Author.Rules.{rules}
 use mathlib.Core.Path.{refl}
 use Rattle.plate_export.proofs.ExportedDesk.{mark-replied}
 use Rattle.plate_export.proofs.desk_mark.Goals as goal

@@ -1,5 +1,4 @@
 -- `plate_export::plate_read` meets its contract. Assumes nothing.
-use borrow.Author.Rules.{rules}
 use mathlib.Core.Path.{ap}
 use Prim.Native.Nat.{ℕ, ◌+◌, ◌*◌}
 use Rattle.plate_export.proofs.Exported.{exported-accepted, exported-refused-plate}
