@@ -1,11 +1,12 @@
 -- The margin: of two outside points at most h apart, the lower one stands further out.
 -- Assumes nothing.
-use Rattle.std.specs.Prelude.{◌≡◌, refl, Bool, true, false, ◌||◌, List, [], ◌∷◌, ◌++◌, ℕ, zero, suc, ◌+◌, ◌≤◌, ◌<◌, ltb, leb, eqb}
-use Rattle.std.proofs.Common.{ap, ◌∙◌, ltb-true, ltb-false, eqb-true, le-leb, eq-eqb, ne_eqb, arith}
+use Rattle.std.specs.Prelude.{◌≡◌, refl, Bool, true, false, ◌||◌, List, [], ◌∷◌, ◌++◌, ℕ, zero, suc, ◌+◌, ◌≤◌, ◌<◌, leb, eqb}
+use Rattle.std.proofs.Common.{ap, ◌∙◌, le-leb, eq-eqb, ne_eqb, arith}
 use Rattle.labeling.specs.Points.{Points, Choice, before, insert, outside_below, outside, among}
 use Rattle.labeling.specs.Points.{next_margin, placed_from, placed, margin_in, margin_column}
 use Rattle.labeling.proofs.Decide.{not-both, decide, same, or_left, or_right, or-false}
 use Rattle.labeling.specs.Margin.{Falling, Sorted}
+pub use Rattle.labeling.proofs.Sorted.{before-is, before-not, insert-falling, insert-sorted, outside-sorted}
 
 pub among-head : (i j : ℕ) (l : List ℕ) → i ≡ j → among i (j ∷ l) ≡ true
 unfolding among
@@ -32,39 +33,6 @@ among-last x m (y ∷ l) = ap (λ t. eqb x y || t) (among-last x m l) ∙ or_ass
     or_assoc : (a b c : Bool) → (a || (b || c)) ≡ ((a || b) || c)
     or_assoc true b c = refl
     or_assoc false b c = refl
-
--- what the order says of rows
-pub before-is : (P : Points) (i j : ℕ) → before P i j ≡ true → P.row j ≤ P.row i
-unfolding before
-before-is P i j e =
-    decide (ltb (P.row j) (P.row i))
-    (λ k. let l : P.row j < P.row i = ltb-true _ _ k in omega arith)
-    (λ k. decide (eqb (P.row j) (P.row i)) (λ m. let q : P.row j ≡ P.row i = eqb-true _ _ m in omega arith)
-    (λ m. absurd (not-both e (rw (k, m)))))
-
-pub before-not : (P : Points) (i j : ℕ) → before P i j ≡ false → P.row i ≤ P.row j
-unfolding before
-before-not P i j e = decide (ltb (P.row j) (P.row i)) (λ k. absurd (not-both (or_left _ _ k) e)) (λ k. ltb-false _ _ k)
-
--- insertion keeps the order
-pub insert-falling : (P : Points) (i r : ℕ) (l : List ℕ) → P.row i ≤ r → Falling P r l → Falling P r (insert P i l)
-unfolding insert
-insert-falling P i r [] b f = (b, tt)
-insert-falling P i r (j ∷ l) b f =
-    decide (before P i j)
-    (λ e. rw e (b, (before-is P i j e, f.1)))
-    (λ e. rw e (f.0, insert-falling P i (P.row j) l (before-not P i j e) f.1))
-
-pub insert-sorted : (P : Points) (i : ℕ) (l : List ℕ) → Sorted P l → Sorted P (insert P i l)
-unfolding insert
-insert-sorted P i [] f = tt
-insert-sorted P i (j ∷ l) f =
-    decide (before P i j) (λ e. rw e (before-is P i j e, f)) (λ e. rw e (insert-falling P i (P.row j) l (before-not P i j e) f))
-
-pub outside-sorted : (P : Points) (S : Choice) (m : ℕ) → Sorted P (outside_below P S m)
-unfolding outside_below
-outside-sorted P S zero = tt
-outside-sorted P S (suc m) = decide (S m) (λ e. rw e (outside-sorted P S m)) (λ e. rw e (insert-sorted P m _ (outside-sorted P S m)))
 
 -- insertion lists i and keeps the others
 pub insert-new : (P : Points) (i : ℕ) (l : List ℕ) → among i (insert P i l) ≡ true

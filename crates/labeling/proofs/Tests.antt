@@ -1,22 +1,12 @@
 -- The tests of Marks.antt and Conflicts.antt decide the facts beside them.
 -- Assumes nothing.
-use Rattle.std.specs.Prelude.{◌≡◌, refl, Bool, true, ℕ, zero, suc, ◌<◌}
-use Rattle.std.proofs.Common.{arith}
+use Rattle.std.specs.Prelude.{Bool, ℕ, ◌<◌}
 use Rattle.labeling.specs.Points.{Points, Choice, Pixel, at_column, in_margin}
 use Rattle.labeling.specs.Marks.{Label, Leader, Outer, Marks, LabelOnMap, label_b, leader_b, outer_b, marks_b, label_on_map_b}
 use Rattle.labeling.specs.Conflicts.{Overlap, Hits, Conflict, Free, overlap_b, hits_b, conflict_b, every, apart_b, within_b, valid_b}
-use Rattle.labeling.proofs.Decide.{Decides, same, and_left, and_right, and_both, dec-lt, dec-le, dec-eq, dec-none, dec-and, dec-and₃}
+use Rattle.labeling.proofs.Decide.{Decides, dec-lt, dec-le, dec-eq, dec-none, dec-and, dec-and₃}
 use Rattle.labeling.proofs.Decide.{dec-and₄, dec-or, dec-not, dec-cond, dec-map, dec-unless, dec_if}
-
-pub every_of : (f : ℕ → Bool) (n : ℕ) → ((i : ℕ) → i < n → f i ≡ true) → every f n ≡ true
-unfolding every
-every_of f zero k = refl
-every_of f (suc n) k = and_both _ _ (k n (omega arith)) (every_of f n (λ i l. k i (omega arith)))
-
-pub every-is : (f : ℕ → Bool) (n : ℕ) → every f n ≡ true → (i : ℕ) → i < n → f i ≡ true
-unfolding every
-every-is f zero e i l = absurd (omega arith)
-every-is f (suc n) e i l = same i n (λ k. rw k (and_left _ _ e)) (λ k. every-is f n (and_right (f n) _ e) i (omega arith))
+pub use Rattle.labeling.proofs.Every.{every_of, every-is}
 
 -- `every` decides that each number below n has the fact that is tested.
 pub dec-every : (f : ℕ → Bool) (F : ℕ → Type 0) (n : ℕ) → ((i : ℕ) → Decides (f i) (F i))

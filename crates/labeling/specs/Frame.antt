@@ -1,6 +1,6 @@
 -- The frame (document 02 (a)), and valid, said of pixels alone. proofs/Frame.antt shows that a label is on the map exactly if all its
 -- pixels are, so that both ways to say valid agree. Assumes nothing.
-use Rattle.std.specs.Prelude.{◌≡◌, true, ℕ, ◌-◌, ◌<◌}
+use Rattle.std.specs.Prelude.{◌≡◌, true, ℕ, ◌<◌}
 use Rattle.labeling.specs.Points.{Points, Choice, Pixel, at_column, in_margin}
 use Rattle.labeling.specs.Marks.{Marks}
 
