@@ -2,6 +2,7 @@
 -- Comparisons the tests as a program makes them, and TieBreak weights that find the preferred choice.
 pub mod Optimum
 pub mod Positions
+pub mod Unreached
 pub mod Safe
 pub mod Comparisons
 pub mod TieBreak

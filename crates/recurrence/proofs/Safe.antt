@@ -5,26 +5,19 @@ use Rattle.std.specs.Prelude.{◌≡◌, true, ℕ, zero, suc, ◌≤◌, ◌<�
 use Rattle.std.proofs.Math.Path.{refl}
 use Rattle.std.proofs.Common.{sym, ap, arith}
 use borrow.Author.Tests.{lt-ltb, le-ltb}
-use Rattle.labeling.proofs.Decide.{decide, same, not-both, Decides, dec-lt, dec-and, dec-not, less, dec-false, dec-map}
+use Rattle.labeling.proofs.Decide.{decide, same, not-both, less, dec-false}
 use Rattle.recurrence.specs.Recurrence.{Heights, Point, Sorted, Overlap, between}
 use Rattle.recurrence.specs.Recurrence.{reaches_above, reach, may_be_inside, rows_differ, join, value, out_value, in_value}
 use Rattle.recurrence.specs.RecurrenceTests.{Between, Reaches, Reached}
-use Rattle.recurrence.proofs.RecurrenceTests.{dec-every-point, dec-between, dec-reaches}
+use Rattle.recurrence.proofs.RecurrenceTests.{dec-between, dec-reaches}
 use Rattle.recurrence.specs.RecurrenceTests.{newer, older, nobody, MayBeInside}
 use Rattle.recurrence.proofs.RecurrenceTests.{reach-is, dec-may-be-inside}
 use Rattle.recurrence.proofs.RecurrenceTests.{dec-rows-differ, value-zero, value-skip, value-step, greatest-same}
 use Rattle.recurrence.proofs.Joins.{plus-rises, plus-more, join-none, join_last, join-rises, join-max-low}
 use Rattle.recurrence.proofs.Joins.{join-max-high, join-plus-low, join-plus-high, join-assoc}
 use Rattle.recurrence.proofs.Slabs.{rank_is, right_of, overlap-reaches, reaches-overlaps}
-use Rattle.recurrence.specs.Safe.{Unreached, unreached, Safe, Aside, Beside, Whole}
-
-pub dec-unreached : (H : Heights) (p b : ℕ) → b ≤ suc H.n → Decides (unreached H p b) (Unreached H p b)
-unfolding unreached
-dec-unreached H p b u =
-    dec-map
-    (λ f. record { none = λ y l m r. f y (omega arith) (omega arith) (l, (m, r)) })
-    (λ f y l m x. f.none y x.0 x.1.0 x.1.1)
-    (dec-every-point _ _ H.n (λ y. dec-not (dec-and (dec-lt p y) (dec-and (dec-lt y b) (dec-reaches H y p)))))
+use Rattle.recurrence.specs.Safe.{Safe, Aside, Beside, Whole}
+pub use Rattle.recurrence.proofs.Unreached.{dec-unreached}
 
 narrower : {H : Heights} {t p b b' j : ℕ} → b' ≤ b → Aside H t p b j → Aside H t p b' j
 narrower l x = record { apart = λ y m n r o. x.apart y m (omega arith) r o }

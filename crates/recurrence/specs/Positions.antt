@@ -7,8 +7,6 @@ use Rattle.std.proofs.Math.Dec.{eqb}
 use Rattle.labeling.specs.Points.{Points, Choice}
 use Rattle.labeling.specs.Marks.{LabelOnMap}
 use Rattle.labeling.specs.Conflicts
-use Rattle.labeling.specs.Best.{weight}
-use Rattle.recurrence.specs.Recurrence
 use Rattle.recurrence.specs.Recurrence.{Heights, Point, greatest}
 
 -- H is P in height order: its point i is position `position i` of P, with the weights v and the permissions f of the positions.
