@@ -1,3 +1,5 @@
+mod Branches
+mod ReaderParts
 mod Laws
 pub mod SheetAnswers
 pub mod PixelNumber
