@@ -1,6 +1,6 @@
 // Prints the listing of the best plate of the sheet on standard input, or `refused` and the number of the first no. Where a read or a write
 // fails it stops, with a line on standard error.
-// The buffer is enough for an input of any length: one byte more than the largest sheet has decides the text (specs/PrintedStart.antt).
+// The buffer is enough for an input of any length: one byte more than the largest sheet has decides the text (proofs/PrintedStart.antt).
 #![tactic(auto)]
 
 ghost use Rattle.std.specs.Prelude.{◌≡◌, ◌≤◌, length, take};
