@@ -1,9 +1,9 @@
 /* Call-sign plates: the proved calls, for C11 and C++11 on x86-64 Linux.
 
    Linking. The library is one archive, libplate_export.a, which needs nothing
-   but the C library. `rt staticlib plate_export` writes it to the repository's
-   target/staticlib:
-       cc -I bindings/c program.c target/staticlib/libplate_export.a
+   but the C library. `rt lib` in the repository's crates/plate_export writes it to
+   crates/plate_export/out:
+       cc -I bindings/c program.c crates/plate_export/out/libplate_export.a
    or, once `bindings/install PREFIX` has put header, archive and plates.pc there,
    with PKG_CONFIG_PATH=PREFIX/lib/pkgconfig:
        cc program.c $(pkg-config --cflags --libs plates)

@@ -1,5 +1,5 @@
 //! Finds the proved library, libplate_export.a: in the folder that PLATE_LIB_DIR
-//! names, else in the repository's target/staticlib.
+//! names, else in the repository's crates/plate_export/out.
 
 use std::env;
 use std::path::{Path, PathBuf};
@@ -21,8 +21,8 @@ fn main() {
     println!("cargo:rerun-if-changed={}", archive.display());
     if !archive.is_file() {
         fail(&format!(
-            "{} isn't there. `rt staticlib plate_export` writes it to the repository's \
-             target/staticlib; PLATE_LIB_DIR names another folder that has it",
+            "{} isn't there. `rt lib` in the repository's crates/plate_export writes it to \
+             its out/; PLATE_LIB_DIR names another folder that has it",
             archive.display()
         ));
     }
@@ -48,7 +48,7 @@ fn named(folder: PathBuf) -> PathBuf {
 
 fn in_repository() -> PathBuf {
     let here = env::var_os("CARGO_MANIFEST_DIR").unwrap_or_default();
-    Path::new(&here).join("../../target/staticlib")
+    Path::new(&here).join("../../crates/plate_export/out")
 }
 
 fn fail(message: &str) -> ! {
