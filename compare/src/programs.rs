@@ -81,11 +81,11 @@ fn feed(mut stdin: ChildStdin, pieces: &[&[u8]]) -> std::io::Result<()> {
     Ok(())
 }
 
-/// Where a program is: in the folder that PLATE_BIN_DIR names, else in the repository's target/bin.
+/// Where a program is: in the folder that PLATE_BIN_DIR names, else in its crate's out/.
 fn path_of(program: Program) -> Result<PathBuf, String> {
     let folder = match env::var_os("PLATE_BIN_DIR").filter(|name| !name.is_empty()) {
         Some(name) => PathBuf::from(name),
-        None => Path::new(env!("CARGO_MANIFEST_DIR")).join("../target/bin"),
+        None => Path::new(env!("CARGO_MANIFEST_DIR")).join(format!("../crates/{program}/out")),
     };
     if folder.is_relative() {
         let folder = folder.display();
@@ -97,7 +97,7 @@ fn path_of(program: Program) -> Result<PathBuf, String> {
     match path.is_file() {
         true => Ok(path),
         false => Err(format!(
-            "{} isn't there. `rt check {program}` writes it to the repository's target/bin; \
+            "{} isn't there. `rt run <stdin` in the repository's crates/{program} writes it to its out/; \
              PLATE_BIN_DIR names another folder that has it",
             path.display()
         )),
