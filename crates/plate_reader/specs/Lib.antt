@@ -6,5 +6,7 @@ pub mod PlateAnswers
 -- proofs/.
 pub mod DemandTwoReader
 pub mod PlateSections
+-- Worked cases: the table of P1 to P10 and those of document 02. Its theorem is in proofs/Cases.antt.
+pub mod Cases
 -- Bookkeeping for proofs: the walk by which the code answers 43.
 pub mod OutsideWalk
