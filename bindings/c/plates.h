@@ -1,8 +1,8 @@
 /* Call-sign plates: the proved calls, for C11 and C++11 on x86-64 Linux.
 
    Linking. The library is one archive, libplate_export.a, which needs nothing
-   but the C library. `rt lib` in the repository's crates/plate_export writes it to
-   crates/plate_export/out:
+   but the C library. `rt lib --cpu x86-64` in the repository's
+   crates/plate_export writes it to crates/plate_export/out:
        cc -I bindings/c program.c crates/plate_export/out/libplate_export.a
    or, once `bindings/install PREFIX` has put header, archive and plates.pc there,
    with PKG_CONFIG_PATH=PREFIX/lib/pkgconfig:
