@@ -9,12 +9,7 @@ use Rattle.labeling.proofs.Pixels.{nothing-inside}
 use Rattle.labeling.specs.Best.{weight, count, one_each, Best, best, Feasible, feasible_b}
 use Rattle.labeling.specs.Best.{best_sum, best_count, best_choice}
 use Rattle.labeling.specs.Greatest.{Reaches}
-pub use Rattle.labeling.proofs.GreatestFrom.{put-at, put-off, up-to-put, most-from, chosen-from}
-
--- NO VALID CHOICE EXCEEDS IT
-pub best-most : (P : Points) (v : ℕ → ℕ) (R : Choice) → 1 ≤ P.w → Valid P R → weight P v R < best P v
-unfolding best
-best-most P v R pos ok = most-from P v P.n 0 (λ i. false) R pos (omega arith) ok (λ i l. absurd (omega arith))
+pub use Rattle.labeling.proofs.GreatestFrom.{put-at, put-off, up-to-put, most-from, chosen-from, best-most}
 
 -- IT IS REACHED, unless it is 0: by best_choice
 pub best-reached : (P : Points) (v : ℕ → ℕ) → 1 ≤ P.w → 1 ≤ best P v → Reaches P v (best P v)

@@ -6,7 +6,7 @@ use Rattle.labeling.specs.Marks.{Valid}
 use Rattle.labeling.specs.Conflicts.{valid_b}
 use Rattle.labeling.proofs.Decide.{decide, same}
 use Rattle.labeling.proofs.Pixels.{dec-valid}
-use Rattle.labeling.specs.Best.{weight, Agree, put, best_from, best_choice_from}
+use Rattle.labeling.specs.Best.{weight, Agree, put, best_from, best_choice_from, best}
 use Rattle.labeling.proofs.Agree.{valid-agree, weight-agree}
 use Rattle.labeling.specs.Greatest.{UpTo}
 
@@ -59,3 +59,8 @@ chosen-from P v (suc m) k S pos l =
 
     y : ℕ
     y = best_from P v m (suc k) (put S k false)
+
+-- NO VALID CHOICE EXCEEDS IT
+pub best-most : (P : Points) (v : ℕ → ℕ) (R : Choice) → 1 ≤ P.w → Valid P R → weight P v R < best P v
+unfolding best
+best-most P v R pos ok = most-from P v P.n 0 (λ i. false) R pos (omega arith) ok (λ i l. absurd (omega arith))

@@ -1,18 +1,10 @@
 -- The outside positions stand in order, from the highest row down. Assumes nothing.
-use Rattle.std.specs.Prelude.{◌≡◌, true, false, List, [], ◌∷◌, ℕ, zero, suc, ◌≤◌, ◌<◌, ltb, eqb}
-use Rattle.std.proofs.Common.{ltb-true, ltb-false, eqb-true, arith}
+use Rattle.std.specs.Prelude.{◌≡◌, false, List, [], ◌∷◌, ℕ, zero, suc, ◌≤◌, ltb}
+use Rattle.std.proofs.Common.{ltb-false}
 use Rattle.labeling.specs.Points.{Points, Choice, before, insert, outside_below}
 use Rattle.labeling.proofs.Decide.{not-both, decide, or_left}
 use Rattle.labeling.specs.Margin.{Falling, Sorted}
-
--- what the order says of rows
-pub before-is : (P : Points) (i j : ℕ) → before P i j ≡ true → P.row j ≤ P.row i
-unfolding before
-before-is P i j e =
-    decide (ltb (P.row j) (P.row i))
-    (λ k. let l : P.row j < P.row i = ltb-true _ _ k in omega arith)
-    (λ k. decide (eqb (P.row j) (P.row i)) (λ m. let q : P.row j ≡ P.row i = eqb-true _ _ m in omega arith)
-    (λ m. absurd (not-both e (rw (k, m)))))
+pub use Rattle.labeling.proofs.BeforeRows.{before-is}
 
 pub before-not : (P : Points) (i j : ℕ) → before P i j ≡ false → P.row i ≤ P.row j
 unfolding before

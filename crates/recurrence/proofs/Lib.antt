@@ -11,6 +11,7 @@ pub mod RecurrenceTests
 pub mod Joins
 pub mod Slabs
 pub mod NoBetter
+pub mod Takes
 pub mod Recovered
 pub mod Reached
 pub mod Totals

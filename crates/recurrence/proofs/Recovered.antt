@@ -2,18 +2,18 @@
 -- Assumes nothing.
 use Rattle.std.specs.Prelude.{◌≡◌, refl, Bool, true, false, ◌&&◌, ℕ, zero, suc, ◌≤◌, ◌<◌, ltb, leb}
 use Rattle.std.proofs.Common.{sym, ◌∙◌, ap, arith}
-use borrow.Author.Tests.{ltb-true, ltb-false, lt-ltb, le-ltb, le-leb, lt-leb, eq-eqb, ne_eqb}
+use borrow.Author.Tests.{lt-ltb, le-ltb, le-leb, lt-leb, eq-eqb, ne_eqb}
 use Rattle.labeling.proofs.Decide.{decide, same, or_left, or-true, or-false, and-false, less}
 use Rattle.recurrence.specs.Recurrence.{Heights, Point, Sorted, between, reach, value}
-use Rattle.recurrence.specs.Recurrence.{out_value, in_value, takes_in, recovered, open_weight}
-use Rattle.recurrence.specs.RecurrenceTests.{CanOut, CanIn}
-use Rattle.recurrence.proofs.RecurrenceTests.{dec-between, value-zero, value-skip, value-step}
-use Rattle.recurrence.proofs.RecurrenceTests.{out_of, out-is, in-of, in_is, recovered-skip, recovered-in}
+use Rattle.recurrence.specs.Recurrence.{takes_in, recovered, open_weight}
+use Rattle.recurrence.proofs.RecurrenceTests.{dec-between, value-zero, value-skip}
+use Rattle.recurrence.proofs.RecurrenceTests.{out_of, in-of, recovered-skip, recovered-in}
 use Rattle.recurrence.proofs.RecurrenceTests.{recovered-out, open-zero, open-skip, open-out, open_in}
 use Rattle.recurrence.proofs.Slabs.{rank_is}
 use Rattle.recurrence.proofs.Totals.{ltb_next}
 use Rattle.recurrence.proofs.NoBetter.{open-split}
 use Rattle.recurrence.specs.Recovered.{Follows, TakesDown, Down}
+pub use Rattle.recurrence.proofs.Takes.{takes-in, takes_out}
 
 module _ {H : Heights} (L : Sorted H) {S : ℕ → Bool} {t a b q : ℕ} (tn : t < H.n) (f : Follows H S (suc t) a b q) where
   -- The point of rank t isn't between: S follows the recovery with one rank less.
@@ -67,22 +67,6 @@ module _ {H : Heights} (L : Sorted H) {S : ℕ → Bool} {t a b q : ℕ} (tn : t
           let l = (dec-between a (H.at_rank t) b).is e in
           f.does (H.at_rank t) (record { low = l.low; high = l.high; left = omega (arith, L.rank-at_rank t tn) })
           ∙ rw (recovered-out H t a b q (H.at_rank t) e m, le-ltb (H.at_rank t) (H.at_rank t) (omega arith))
-
--- What the recovery takes can be had.
-module _ {H : Heights} {t a b q : ℕ} (y : 1 ≤ value H (suc t) a b q) (e : between a (H.at_rank t) b ≡ true) where
-  -- The point of rank t is put inside: it can be, and gives the value.
-  pub takes-in : takes_in H t a b q ≡ true → CanIn H t a b q × (value H (suc t) a b q ≡ in_value H t a b q)
-  unfolding takes_in
-  takes-in m =
-      let more : out_value H t a b q < in_value H t a b q = ltb-true _ _ m in
-      (in_is H t a b q (omega arith), omega (arith, value-step H t a b q e))
-
-  -- It is left outside: it can be, and gives the value.
-  pub takes_out : takes_in H t a b q ≡ false → CanOut H t a b q × (value H (suc t) a b q ≡ out_value H t a b q)
-  unfolding takes_in
-  takes_out m =
-      let less : in_value H t a b q ≤ out_value H t a b q = ltb-false _ _ m in
-      (out-is H t a b q (omega (arith, value-step H t a b q e)), omega (arith, value-step H t a b q e))
 
 -- THE WEIGHT of such a choice on the open points is the value, less one.
 pub weighs : {H : Heights} → Sorted H → (S : ℕ → Bool) (t a b q : ℕ) → t ≤ H.n → 1 ≤ value H t a b q → Follows H S t a b q
