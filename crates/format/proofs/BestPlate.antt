@@ -1,7 +1,6 @@
 -- The best choice of a sheet that has a valid one is the preferred one, with any ranks, and its plate that of every preferred choice.
 -- Assumes nothing.
-use Rattle.std.specs.Prelude.{◌≡◌, List, ℕ}
-use Rattle.std.proofs.Math.Option.{Option}
+use Rattle.std.specs.Prelude.{◌≡◌, List, ℕ, Option}
 use Rattle.labeling.specs.Points.{Choice}
 use Rattle.labeling.specs.Best.{weight, best_sum, best_choice, Agree, Preferred, Feasible}
 use Rattle.labeling.proofs.Greatest.{feasible-best, best-sums}

@@ -1,6 +1,5 @@
 -- What a making and a load without a no have, and what a call leaves in the workspace. Assumes nothing.
-use Rattle.std.specs.Prelude.{◌≡◌, Bool, true, List, ℕ, ◌+◌, ◌*◌, ◌≤◌, length, replicate}
-use Rattle.std.proofs.Math.Option.{Option}
+use Rattle.std.specs.Prelude.{◌≡◌, Bool, true, List, ℕ, ◌+◌, ◌*◌, ◌≤◌, length, replicate, Option}
 use Rattle.std.proofs.Common.{ne_eqb, arith}
 use Rattle.labeling.specs.Best.{Feasible}
 use Rattle.labeling.proofs.Greatest.{dec-feasible}

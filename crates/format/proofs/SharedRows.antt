@@ -1,9 +1,8 @@
 -- What document 02 (c) says of numbers: 61 comes exactly if no choice of the sheet is valid, the sheet's own questions never have it, and
 -- "Sheets with distinct rows get the answers they had". Assumes nothing.
-use Rattle.std.specs.Prelude.{◌≡◌, Bool, ◌↔◌, List, leb, eqb, length}
+use Rattle.std.specs.Prelude.{◌≡◌, Bool, ◌↔◌, List, leb, eqb, length, Option, None, Some}
 use Rattle.std.proofs.Math.Path.{refl}
 use Rattle.std.proofs.Common.{sym, ◌∙◌, eq-eqb, ne_eqb, arith}
-use Rattle.std.proofs.Math.Option.{Option, none, some}
 use Prim.Native.Nat.{ℕ, zero, suc, ◌≤◌, ◌<◌}
 use Rattle.labeling.specs.Points.{DistinctRows}
 use Rattle.labeling.specs.Best.{Feasible, feasible_b}
@@ -65,8 +64,8 @@ room_most s fits cells =
 
 ranks-other : (n : ℕ) (r : Option (List ℕ)) → Other (ranks_no n r)
 unfolding ranks_no
-ranks-other n none = λ e. omega arith
-ranks-other n (some r) =
+ranks-other n None = λ e. omega arith
+ranks-other n (Some r) =
     ask-has Other (rank_count_right n r) 62 _ (λ e. omega arith) (ask-has Other (ranks_allowed n r) 63 0 (λ e. omega arith) (λ e. omega arith))
 
 pub asked-other : (s : List ℕ) (r : Option (List ℕ)) (fits : Bool) (cells : ℕ) → asked_no s r fits cells ≡ 61 → ⊥

@@ -1,8 +1,7 @@
 -- "Without a list every rank is 1 and all earlier answers hold" (document 02 (e)); and a lent list of ones is like none. Assumes nothing.
-use Rattle.std.specs.Prelude.{◌≡◌, refl, List, eqb}
+use Rattle.std.specs.Prelude.{◌≡◌, refl, List, eqb, None, Some}
 use Rattle.std.proofs.Common.{sym, eqb-true}
 use Rattle.std.proofs.Math.Path.{ap}
-use Rattle.std.proofs.Math.Option.{none, some}
 use Prim.Native.Nat.{ℕ, suc, ◌+◌, ◌<◌}
 use Rattle.std.proofs.Math.ListN.{length, length-replicate}
 use Rattle.std.proofs.lemmas.List.{get_or-replicate}
@@ -34,33 +33,33 @@ without-list s = record {
 }
 
 module _ (s : List ℕ) where
-  pub rank-one : (i : ℕ) → i < point_count s → rank_in (some (ones s)) i ≡ rank_in none i
+  pub rank-one : (i : ℕ) → i < point_count s → rank_in (Some (ones s)) i ≡ rank_in None i
   unfolding rank_in
   rank-one i l = let e : 1 + i ≡ suc i = omega arith in rw e (get_or-replicate {A = ℕ} (point_count s) i 1 0 l)
 
-  ones-right : RightRanks (point_count s) (some (ones s))
+  ones-right : RightRanks (point_count s) (Some (ones s))
   unfolding RightRanks rank_in
   ones-right =
       let long : length (ones s) ≡ 1 + point_count s = omega (arith, length-replicate {A = ℕ} (point_count s) 1) in
       ((omega arith, (refl, long)), (λ i l. (let e = rank-one i l in (omega arith, omega arith)), tt))
 
-  no_number : ranks_no (point_count s) (some (ones s)) ≡ ranks_no (point_count s) none
+  no_number : ranks_no (point_count s) (Some (ones s)) ≡ ranks_no (point_count s) None
   unfolding ranks_no
-  no_number = (none-ranks (point_count s) (some (ones s))).of ones-right
+  no_number = (none-ranks (point_count s) (Some (ones s))).of ones-right
 
   -- the numbers are those without a list,
-  pub ones-making : (room cells : ℕ) → making_no s (some (ones s)) room cells ≡ making_no s none room cells
+  pub ones-making : (room cells : ℕ) → making_no s (Some (ones s)) room cells ≡ making_no s None room cells
   unfolding making_no choosing_no asked_no
   ones-making room cells = rw no_number
 
-  pub ones-load : (cells : ℕ) → load_no s (some (ones s)) cells ≡ load_no s none cells
+  pub ones-load : (cells : ℕ) → load_no s (Some (ones s)) cells ≡ load_no s None cells
   unfolding load_no load_asked_no
   ones-load cells = rw no_number
 
   -- and so are the plate and the best
-  pub ones-plate : best_plate s (some (ones s)) ≡ best_plate s none
+  pub ones-plate : best_plate s (Some (ones s)) ≡ best_plate s None
   unfolding best_plate
-  ones-plate = ap (plate_of s) (best-choice-same (points_of s) (rank_in (some (ones s))) (rank_in none) rank-one)
+  ones-plate = ap (plate_of s) (best-choice-same (points_of s) (rank_in (Some (ones s))) (rank_in None) rank-one)
 
-  pub ones-best : best_sum (points_of s) (rank_in (some (ones s))) ≡ best_sum (points_of s) (rank_in none)
-  ones-best = best-sum-same (points_of s) (rank_in (some (ones s))) (rank_in none) rank-one
+  pub ones-best : best_sum (points_of s) (rank_in (Some (ones s))) ≡ best_sum (points_of s) (rank_in None)
+  ones-best = best-sum-same (points_of s) (rank_in (Some (ones s))) (rank_in None) rank-one

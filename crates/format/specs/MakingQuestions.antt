@@ -1,7 +1,6 @@
 -- The questions of making and loading, and what a call leaves in the workspace and in the output (document 01, "Questions in their order",
 -- and document 02 (c) to (e)), where r is the rank list, if one is lent. Assumes nothing.
-use Rattle.std.specs.Prelude.{Bool, cond, ◌||◌, List, ◌++◌, ℕ, ◌+◌, ◌*◌, leb, eqb, length, drop, replicate}
-use Rattle.std.proofs.Math.Option.{Option}
+use Rattle.std.specs.Prelude.{Bool, cond, ◌||◌, List, ◌++◌, ℕ, ◌+◌, ◌*◌, leb, eqb, length, drop, replicate, Option}
 use Rattle.labeling.specs.Best.{feasible_b}
 use Rattle.format.specs.Sizes.{workspace_cells}
 use Rattle.format.specs.Sheet.{ask, then_no, point_count, points_of, sheet_no}

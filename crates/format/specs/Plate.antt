@@ -1,7 +1,6 @@
 -- The plate of a sheet and a choice, as bytes (document 01, "Sheet and plate as bytes"), and the best plate of a sheet and a rank list, if
 -- one is lent (document 02 (d) and (e)). Assumes nothing.
-use Rattle.std.specs.Prelude.{cond, List, [], ◌∷◌, ◌++◌, ℕ, zero, suc, length}
-use Rattle.std.proofs.Math.Option.{Option}
+use Rattle.std.specs.Prelude.{cond, List, [], ◌∷◌, ◌++◌, ℕ, zero, suc, length, Option}
 use Rattle.labeling.specs.Points.{Choice, Placed, outside, placed, among}
 use Rattle.labeling.specs.Best.{best_choice}
 use Rattle.format.specs.Sheet.{point_count, points_of}

@@ -1,6 +1,5 @@
 -- What a rank list without a no is. Assumes nothing.
-use Rattle.std.specs.Prelude.{◌≡◌, List, ℕ, ◌+◌, ◌<◌, length, get_or}
-use Rattle.std.proofs.Math.Option.{Option, none, some}
+use Rattle.std.specs.Prelude.{◌≡◌, List, ℕ, ◌+◌, ◌<◌, length, get_or, Option, None, Some}
 use Rattle.format.specs.RankList.{rank_in}
 use Rattle.format.specs.Accepted.{UpTo}
 
@@ -10,5 +9,5 @@ RankCount n r = (0 < length r) × ((get_or r 0 0 ≡ n) × (length r ≡ 1 + n))
 
 -- "a count byte n, then n ranks from 1 to 9", or no list
 unfoldable pub RightRanks : ℕ → Option (List ℕ) → Type 0
-RightRanks n none = Unit {0}
-RightRanks n (some r) = RankCount n r × (((i : ℕ) → i < n → UpTo 9 (rank_in (some r) i)) × Unit {0})
+RightRanks n None = Unit {0}
+RightRanks n (Some r) = RankCount n r × (((i : ℕ) → i < n → UpTo 9 (rank_in (Some r) i)) × Unit {0})

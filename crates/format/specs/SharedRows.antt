@@ -1,7 +1,6 @@
 -- What document 02 (c) says of numbers: "Sheets with distinct rows get the answers they had". proofs/SharedRows.antt proves it, and that 61
 -- comes exactly if no choice of the sheet is valid, and never from the sheet's own questions. Assumes nothing.
-use Rattle.std.specs.Prelude.{◌≡◌, Bool, List, eqb}
-use Rattle.std.proofs.Math.Option.{Option}
+use Rattle.std.specs.Prelude.{◌≡◌, Bool, List, eqb, Option}
 use Prim.Native.Nat.{ℕ, zero, suc}
 use Rattle.format.specs.Sheet.{point_count, call_number, column, row}
 use Rattle.format.specs.Sheet.{ask, then_no, up_to, on_map, same_call, unlike_earlier, points_no}

@@ -1,7 +1,6 @@
 -- "Without a list every rank is 1 and all earlier answers hold" (document 02 (e)); and a list of ones. proofs/Unranked.antt shows that a
 -- lent list of ones is like none. Assumes nothing.
-use Rattle.std.specs.Prelude.{◌≡◌, List, ◌∷◌, replicate}
-use Rattle.std.proofs.Math.Option.{none}
+use Rattle.std.specs.Prelude.{◌≡◌, List, ◌∷◌, replicate, None}
 use Prim.Native.Nat.{ℕ}
 use Rattle.labeling.specs.Best.{one_each, best_sum, best_count, best_choice, Preferred, Feasible}
 use Rattle.format.specs.Sheet.{point_count, points_of, then_no, sheet_no}
@@ -14,10 +13,10 @@ use Rattle.format.specs.MakingQuestions.{load_no}
 -- WITHOUT A LIST: the number of a making and of a load is that of the questions of document 01 and document 02 (c), the plate that of the
 -- preferred choice by count, and the best sum the best count.
 pub record WithoutList (s : List ℕ) : Type 0 where
-  pub making : (room cells : ℕ) → making_no s none room cells ≡ then_no (room_no s (output_fits s room) cells) (choice_no s)
-  pub loading : (cells : ℕ) → load_no s none cells ≡ then_no (then_no (sheet_no s) (workspace_no cells)) (choice_no s)
-  pub plate : best_plate s none ≡ plate_of s (best_choice (points_of s) one_each)
-  pub best : best_sum (points_of s) (rank_in none) ≡ best_count (points_of s)
+  pub making : (room cells : ℕ) → making_no s None room cells ≡ then_no (room_no s (output_fits s room) cells) (choice_no s)
+  pub loading : (cells : ℕ) → load_no s None cells ≡ then_no (then_no (sheet_no s) (workspace_no cells)) (choice_no s)
+  pub plate : best_plate s None ≡ plate_of s (best_choice (points_of s) one_each)
+  pub best : best_sum (points_of s) (rank_in None) ≡ best_count (points_of s)
   -- "the unranked case following from it"
   pub preferred : Accepted s → Feasible (points_of s) → Preferred (points_of s) one_each (best_choice (points_of s) one_each)
 

@@ -7,8 +7,10 @@ ghost use Rattle.format.specs.Sheet.{call_number, column as column_of, row as ro
 ghost use Rattle.labeling.specs.Points.{next_margin};
 ghost use Rattle.labeling.specs.Marks.{label_on_map_b};
 
+mod refusal;
 mod writing;
 
+pub use refusal::Refusal;
 pub use writing::copy_to;
 
 // The most points of a sheet.
@@ -23,40 +25,34 @@ pub const PLATE_ROOM: usize = 268;
 // The 16-bit numbers of workspace that a making and a load ask for.
 pub const WORKSPACE_CELLS: usize = 32768;
 
-// A byte as a wider number.
-fn wide(b: u8) -> u16
-    ensures { (result ≡ b) × (result < 256) }
-{
-    b as u16
-}
-
 // The byte at a place, 0 past the end.
 pub fn byte_at(bytes: &[u8], at: usize) -> u8
     ensures { result ≡ get_or bytes.now at 0 }
 {
-    if at < bytes.len() {
-        return bytes[at];
-    }
-    0 // past the end
+    bytes.get(at).copied().unwrap_or(0)
 }
 
-// The two-byte number at a place, low byte first, where both bytes are there.
+// The two-byte number at a place, low byte first, where both bytes are there: by itself, since `two_bytes` reads one after the other where
+// this stands in it, and checking a sheet takes longer.
+#[tactic(auto, unfolding(crate::specs::Sheet::two_bytes))]
 fn both_bytes(bytes: &[u8], at: usize) -> u16
     requires { at + 1 < length bytes.now }
     ensures { result ≡ two_bytes bytes.now at }
 {
-    wide(bytes[at]) + 256 * wide(bytes[at + 1])
+    u16::from_le_bytes([bytes[at], bytes[at + 1]])
 }
 
 // The two-byte number at a place of at most 65,535, low byte first. A byte past the end is 0.
+#[tactic(auto, unfolding(crate::specs::Sheet::two_bytes))]
 fn two_bytes(bytes: &[u8], at: usize) -> u16
     requires { at < 65536 }
     ensures { result ≡ two_bytes bytes.now at }
 {
     if at + 1 < bytes.len() {
-        return both_bytes(bytes, at);
+        both_bytes(bytes, at)
+    } else {
+        u16::from(byte_at(bytes, at))
     }
-    wide(byte_at(bytes, at))
 }
 
 pub fn map_width(sheet: &[u8]) -> u16
@@ -93,63 +89,61 @@ pub fn point_count(sheet: &[u8]) -> u8
 pub fn sheet_length(sheet: &[u8]) -> usize
     ensures { (result ≡ sheet_length sheet.now) × (result < 2000) }
 {
-    10 + 6 * point_count(sheet) as usize
+    10 + 6 * usize::from(point_count(sheet))
 }
 
 pub fn call_number(sheet: &[u8], position: u8) -> u16
     ensures { result ≡ call_number sheet.now position }
 {
-    two_bytes(sheet, 10 + 6 * position as usize)
+    two_bytes(sheet, 10 + 6 * usize::from(position))
 }
 
 pub fn column(sheet: &[u8], position: u8) -> u16
     ensures { result ≡ column_of sheet.now position }
 {
-    two_bytes(sheet, 12 + 6 * position as usize)
+    two_bytes(sheet, 12 + 6 * usize::from(position))
 }
 
 pub fn row(sheet: &[u8], position: u8) -> u16
     ensures { result ≡ row_of sheet.now position }
 {
-    two_bytes(sheet, 14 + 6 * position as usize)
+    two_bytes(sheet, 14 + 6 * usize::from(position))
 }
 
 // `a` is less than `length` above `b`, or below it.
 pub fn within(a: u16, b: u16, length: u16) -> bool
     ensures { result ≡ ltb a (b + length) }
 {
-    (a as u32) < b as u32 + length as u32
+    u32::from(a) < u32::from(b) + u32::from(length)
 }
 
 // A stretch of `length` from `start` on ends at `end` or before.
 fn ends_by(start: u16, length: u16, end: u16) -> bool
     ensures { result ≡ leb (start + length) end }
 {
-    start as u32 + length as u32 <= end as u32
+    u32::from(start) + u32::from(length) <= u32::from(end)
 }
 
 // The label of a position, put inside, is on the map.
 pub fn label_on_map(sheet: &[u8], position: u8) -> bool
     ensures { result ≡ label_on_map_b (points_of sheet.now) position }
 {
-    if ends_by(
+    ends_by(
         column(sheet, position),
         label_width(sheet),
         map_width(sheet),
-    ) {
-        return ends_by(row(sheet, position), label_height(sheet), map_height(sheet));
-    }
-    false
+    ) && ends_by(row(sheet, position), label_height(sheet), map_height(sheet))
 }
 
 // The row `lower` is at most `height` below the row `upper`, or above it.
 fn close_below(upper: u16, lower: u16, height: u16) -> bool
     ensures { result ≡ leb upper (lower + height) }
 {
-    upper as u32 <= lower as u32 + height as u32
+    u32::from(upper) <= u32::from(lower) + u32::from(height)
 }
 
 // The margin column of the outside position that comes next after the position `previous` in the margin column `margin`.
+#[tactic(auto, unfolding(labeling::specs::Points::next_margin))]
 pub fn next_margin(sheet: &[u8], previous: u8, margin: u8, position: u8) -> u16
     ensures { result ≡ next_margin (points_of sheet.now) previous margin position }
 {
@@ -158,7 +152,8 @@ pub fn next_margin(sheet: &[u8], previous: u8, margin: u8, position: u8) -> u16
         row(sheet, position),
         label_height(sheet),
     ) {
-        return margin as u16 + 1;
+        u16::from(margin) + 1
+    } else {
+        0
     }
-    0
 }
