@@ -1,31 +1,48 @@
 -- Facts about the tests of a sheet, for the proofs of this crate. Assumes nothing.
-use mathlib.Core.Path.{◌≡◌, refl, sym, ap, ◌∙◌}
-use mathlib.Core.Bool.{Bool, true, false, not}
-use mathlib.Core.List.{List}
-use Prim.Native.Nat.{ℕ, zero, suc, ◌+◌, ◌*◌, ◌≤◌, ◌<◌}
-use lib.ListN.{length, get_or, get_or-eq_default}
-use borrow.Author.Tests.{eq-eqb, ne_eqb, leb-true}
-use native.Mathlib.Omega.{arith}
-use native.Mathlib.Numerals.{add-one}
+use Rattle.std.specs.Prelude.{◌≡◌, Bool, true, List, ℕ, zero, suc, ◌+◌, ◌<◌, length, get_or, drop, [], ◌*◌, ◌≤◌, Result}
+use Rattle.std.proofs.Common.{get_or-take, ap, ◌∙◌, eq-eqb, ne_eqb, leb-true, add-one, sym, refl, arith}
+use Rattle.std.proofs.Math.ListN.{get_or-eq_default}
+use Rattle.std.proofs.lemmas.List.{get_or-drop}
+use Rattle.std.specs.List.{list_all}
+use Rattle.std.specs.Simd.{first_chunks}
+use Rattle.std.proofs.lemmas.List.Recursion.{and_at, and_from_places}
 use Rattle.labeling.specs.Conflicts.{every}
-use Rattle.labeling.proofs.Decide.{not-both, decide, same, less, and_left}
-use Rattle.labeling.proofs.Tests.{every_of, every-is}
-use Rattle.format.specs.Answers.{outcome_of}
-use Rattle.format.specs.Sheet.{two_bytes, call_number, up_to, unlike_earlier, point_no, points_no}
+use Rattle.labeling.proofs.Decide.{dec-true, dec-unique, same, less, and_left}
+use Rattle.labeling.proofs.Tests.{dec-every}
+use Rattle.format.specs.declared.refusal.Refusal.{Refusal}
+use Rattle.format.specs.Answers.{no_of, outcome, outcome_of}
+use Rattle.format.proofs.Answers.{outcome-no}
+use Rattle.format.specs.Sheet.{two_bytes, call_number, up_to, point_no, points_no}
 
--- one earlier position is like i: it is not unlike every earlier one
-pub not-unlike : (like : ℕ → ℕ → Bool) (i j : ℕ) → j < i → like j i ≡ true → false ≡ unlike_earlier like i
-unfolding unlike_earlier
-not-unlike like i j l e =
-    decide (every (λ j. not (like j i)) i)
-    (λ t. let z : not (like j i) ≡ true = every-is (λ j. not (like j i)) i t j l in
-    let y : not true ≡ true = rw e at z in absurd (not-both y refl))
-    (λ t. sym t)
+-- THE EARLIER POINTS
 
--- none is like i
-pub unlike : (like : ℕ → ℕ → Bool) (i m : ℕ) → i ≤ m → ((j : ℕ) → j < m → like j i ≡ false) → true ≡ unlike_earlier like i
-unfolding unlike_earlier
-unlike like i m l f = sym (every_of (λ j. not (like j i)) i (λ j k. ap not (f j (omega arith))))
+-- the bytes of a chunk of six
+pub chunk-byte : (n : ℕ) (xs : List ℕ) (j k : ℕ) → j < n → k < 6
+    → get_or (get_or (first_chunks 6 n xs) j []) k 0 ≡ get_or xs (6 * j + k) 0
+chunk-byte zero xs j k l m = absurd (omega arith)
+chunk-byte (suc n) xs zero k l m = get_or-take 6 xs k 0 m ∙ ap (λ i. get_or xs i 0) (omega arith)
+chunk-byte (suc n) xs (suc j) k l m =
+    chunk-byte n (drop 6 xs) j k (omega arith) m
+    ∙ get_or-drop 6 xs (6 * j + k) 0
+    ∙ ap (λ i. get_or xs i 0) (omega arith)
+
+-- the number of two bytes of the point at position j
+pub two-there : (s : List ℕ) (j k m low high : ℕ) → low ≡ get_or s (10 + 6 * j + k) 0 → high ≡ get_or s (10 + 6 * j + (k + 1)) 0
+    → m ≡ 10 + 6 * j + k → low + 256 * high ≡ two_bytes s m
+unfolding two_bytes
+two-there s j k m low high a b e =
+    rw (a, b, e) (ap (λ i. get_or s (10 + 6 * j + k) 0 + 256 * get_or s i 0) (omega arith))
+
+-- a test that all points pass, by the test of each position
+pub all-every : (p : List ℕ → Bool) (q : ℕ → Bool) (points : List (List ℕ)) (n : ℕ) → length points ≡ n
+    → ((j : ℕ) → j < n → p (get_or points j []) ≡ q j) → list_all p points ≡ every q n
+all-every p q points n long same =
+    dec-unique
+    (record {
+      is = λ e i k. sym (same i k) ∙ and_at (list_all p) p refl (λ x y. refl) points i [] (omega arith) e;
+      of = λ f. and_from_places (list_all p) p refl (λ x y. refl) points [] (λ i k. same i (omega arith) ∙ f i (omega arith));
+    })
+    (dec-every q (λ i. q i ≡ true) n (λ i. dec-true (q i)))
 
 -- POINT BY POINT
 
@@ -56,10 +73,7 @@ points-first s m (suc k) e ne l =
     let ih : point_no s m ≡ points_no s k = points-first s m k e ne (omega arith) in
     rw (ne_eqb (points_no s k) 0 (λ z. ne (ih ∙ z))) ih)
 
--- THE ANSWER of a call whose first no is k
+-- THE ANSWER whose number is k
 
-pub none-outcome : (k : ℕ) → k ≡ 0 → record { refused = false; no = 0 } ≡ outcome_of k
-none-outcome k e = rw e
-
-pub no-outcome : (r k : ℕ) → r ≡ k → (r ≡ 0 → ⊥) → record { refused = true; no = r } ≡ outcome_of k
-no-outcome r k e ne = rw (← e, ne_eqb r 0 ne)
+pub outcome_by_no : (r : Result (Unit {0}) Refusal) (k : ℕ) → no_of r ≡ k → outcome r ≡ outcome_of k
+outcome_by_no r k e = outcome-no r ∙ ap outcome_of e

@@ -1,5 +1,5 @@
 -- Walking a sheet: the point at a position, how many are left, and the place after it. Assumes nothing.
-use Rattle.std.specs.Prelude.{cond, List, ℕ, ◌+◌, ◌-◌, ltb}
+use Rattle.std.specs.Prelude.{cond, List, ℕ, ◌+◌, ◌-◌, ltb, Option, None, Some}
 use Rattle.std.specs.Borrow.{Bor}
 use Rattle.format.specs.Sheet.{point_count, call_number, column, row}
 use Rattle.sheet_reader.specs.declared.reader.SheetPoint.{SheetPoint}
@@ -24,3 +24,7 @@ reader_at s i = record { sheet = s; next = i }
 -- The same bytes, and the place after.
 abbrev pub moved_on : SheetReader → SheetReader
 moved_on r = reader_at r.sheet (place_after r.sheet.now r.next)
+
+-- What the walk gives next: the position and its point, where a point is left.
+abbrev pub walked : SheetReader → Option (ℕ × SheetPoint)
+walked r = cond (ltb r.next (point_count r.sheet.now)) (Some (r.next, point_at r.sheet.now r.next)) None

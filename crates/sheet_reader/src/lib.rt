@@ -1,72 +1,65 @@
 // Reading sheets: their questions, asked point by point by a reader.
 #![tactic(auto)]
 
-ghost use Rattle.std.specs.Prelude.{◌≡◌, ◌+◌, ◌*◌, ◌<◌, ◌≤◌, length};
-ghost use Rattle.format.specs.Sheet.{two_bytes, point_count, column as column_of, row as row_of};
+ghost use Rattle.std.specs.Prelude.{◌≡◌, ℕ, ◌+◌, ◌*◌, ◌<◌, ◌≤◌, Bool, not, List, [], length, get_or};
+ghost use Rattle.std.specs.List.{list_all};
+ghost use Rattle.std.specs.Fn.{FnReturnsAt};
+ghost use Rattle.format.specs.Sheet.{point_count, column as column_of, row as row_of};
 ghost use Rattle.format.specs.Sheet.{up_to, both_up_to, on_map, same_call, same_pixel, unlike_earlier, point_no, points_no, questions_no, sheet_no};
-ghost use Rattle.format.specs.Answers.{outcome_of};
-ghost use Rattle.sheet_reader.specs.SheetAnswers.{sheet_outcome};
+ghost use Rattle.format.specs.Answers.{no_of, outcome, outcome_of};
 ghost use Rattle.sheet_reader.specs.PixelNumber.{PixelNumber};
 ghost use Rattle.sheet_reader.specs.Reader.{point_at};
 
 use format::{
-    byte_at, call_number, column, label_height, label_width, map_height, map_width, point_count,
-    row, sheet_length,
+    Refusal, byte_at, call_number, column, label_height, label_width, map_height, map_width,
+    point_count, row, sheet_length,
 };
-use reader::{SheetPoint, left, moved, next_point, reader_at};
+use reader::{SheetPoint, SheetReader};
 
 pub mod reader;
-
-// What check_sheet answers: the sheet is accepted, or refused with the number of its first no.
-#[derive(Clone, Copy)]
-pub enum SheetAnswer {
-    Accepted,
-    Refused(u8),
-}
-
-// A byte as a wider number.
-fn wide(b: u8) -> u16
-    ensures { (result ≡ b) × (result < 256) }
-{
-    b as u16
-}
-
-// The two-byte number at a place, low byte first, where both bytes are there.
-fn both_bytes(bytes: &[u8], at: usize) -> u16
-    requires { at + 1 < length bytes.now }
-    ensures { result ≡ two_bytes bytes.now at }
-{
-    wide(bytes[at]) + 256 * wide(bytes[at + 1])
-}
 
 // A number is 1 to most.
 fn up_to(most: u16, x: u16) -> bool
     ensures { result ≡ up_to most x }
 {
-    if x < 1 {
-        return false;
-    }
-    x <= most
+    (1..=most).contains(&x)
 }
 
 // Both sides are 1 to most.
 fn both_up_to(most: u16, x: u16, y: u16) -> bool
     ensures { result ≡ both_up_to most x y }
 {
-    if up_to(most, x) {
-        return up_to(most, y);
-    }
-    false
+    up_to(most, x) && up_to(most, y)
 }
 
 // The column and row of a point are on the map.
 fn on_map(sheet: &[u8], point: SheetPoint) -> bool
     ensures { result ≡ on_map sheet.now point.column point.row }
 {
-    if point.column < map_width(sheet) {
-        return point.row < map_height(sheet);
+    point.column < map_width(sheet) && point.row < map_height(sheet)
+}
+
+// The points before a position, six bytes each, where they are there, whole.
+fn earlier(sheet: &[u8], position: u8) -> &[[u8; 6]]
+    requires { 10 + 6 * position ≤ length sheet.now }
+    ensures count { length result.now ≡ position }
+    ensures bytes { (j k : ℕ) → j < position → k < 6 → get_or (get_or result.now j []) k 0 ≡ get_or sheet.now (10 + 6 * j + k) 0 }
+{
+    let (points, _) = sheet[10..10 + 6 * usize::from(position)].as_chunks();
+    points
+}
+
+// No point is one that `like` picks. A `for`: with `all` in its place, checking a sheet takes two fifths longer.
+fn none<F: Fn(&[u8; 6]) -> bool>(points: &[[u8; 6]], like: F) -> bool
+    requires { F.IsAlwaysCallable like }
+    ensures { (p : List ℕ → Bool) → ((point : List ℕ) (b : Bool) → FnReturnsAt F.Fn like point b → b ≡ p point) → result ≡ list_all (λ point. not (p point)) points.now }
+{
+    for point in points {
+        if like(point) {
+            return false;
+        }
     }
-    false
+    true
 }
 
 // The call number of a position is unlike every earlier one. The earlier points are there, whole.
@@ -75,31 +68,25 @@ fn own_call_number(sheet: &[u8], position: u8) -> bool
     ensures { result ≡ unlike_earlier (same_call sheet.now) position }
 {
     let own = call_number(sheet, position);
-    let mut earlier: u8 = 0;
-    while earlier < position {
-        if both_bytes(sheet, 10 + 6 * earlier as usize) == own {
-            return false;
-        }
-        earlier += 1;
-    }
-    true
+    none(earlier(sheet, position), |point| {
+        u16::from_le_bytes([point[0], point[1]]) == own
+    })
 }
 
 // A pixel as one number.
 fn pixel_number(x: u16, y: u16) -> u32
     ensures { PixelNumber x y result }
 {
-    x as u32 + 65536 * y as u32
+    u32::from(x) + 65536 * u32::from(y)
 }
 
-// The pixel of a position whose point is there, whole.
-fn pixel_there(sheet: &[u8], position: u8) -> u32
-    requires { 16 + 6 * position ≤ length sheet.now }
-    ensures { PixelNumber (column_of sheet.now position) (row_of sheet.now position) result }
+// The pixel of a point.
+fn pixel(point: &[u8; 6]) -> u32
+    ensures { PixelNumber (get_or point.now 2 0 + 256 * get_or point.now 3 0) (get_or point.now 4 0 + 256 * get_or point.now 5 0) result }
 {
     pixel_number(
-        both_bytes(sheet, 12 + 6 * position as usize),
-        both_bytes(sheet, 14 + 6 * position as usize),
+        u16::from_le_bytes([point[2], point[3]]),
+        u16::from_le_bytes([point[4], point[5]]),
     )
 }
 
@@ -109,85 +96,70 @@ fn own_pixel(sheet: &[u8], position: u8) -> bool
     ensures { result ≡ unlike_earlier (same_pixel sheet.now) position }
 {
     let own = pixel_number(column(sheet, position), row(sheet, position));
-    let mut earlier: u8 = 0;
-    while earlier < position {
-        if pixel_there(sheet, earlier) == own {
-            return false;
-        }
-        earlier += 1;
-    }
-    true
+    none(earlier(sheet, position), |point| pixel(point) == own)
 }
 
-// The first no of 17 to 20 for one position and its point, 0 for none.
+// The first no of 17 to 20 for one position and its point.
 #[tactic(auto, unfolding(format::specs::Sheet::point_no))]
-fn point_no(sheet: &[u8], position: u8, point: SheetPoint) -> u8
+fn point_no(sheet: &[u8], position: u8, point: SheetPoint) -> Result<(), Refusal>
     requires { point ≡ point_at sheet.now position }
-    ensures { result ≡ point_no sheet.now position }
+    ensures { no_of result ≡ point_no sheet.now position }
 {
     if !up_to(9999, point.call_number) {
-        return 17;
+        return Err(Refusal::CallNumber);
     }
     if !on_map(sheet, point) {
-        return 18;
+        return Err(Refusal::OffMap);
     }
     if !own_call_number(sheet, position) {
-        return 19;
+        return Err(Refusal::SameCallNumber);
     }
     if !own_pixel(sheet, position) {
-        return 20;
+        return Err(Refusal::SamePixel);
     }
-    0
+    Ok(())
 }
 
-// The first no of 17 to 20, point by point, 0 for none.
-fn points_no(sheet: &[u8]) -> u8
-    ensures { result ≡ points_no sheet.now (point_count sheet.now) }
+// The first no of 17 to 20, point by point.
+fn points_no(sheet: &[u8]) -> Result<(), Refusal>
+    ensures { no_of result ≡ points_no sheet.now (point_count sheet.now) }
 {
-    let mut reader = reader_at(sheet, 0);
-    while left(reader) > 0 {
-        let no = point_no(sheet, reader.next, next_point(reader));
-        if no != 0 {
-            return no;
-        }
-        reader = moved(reader);
+    for (position, point) in SheetReader::at(sheet, 0) {
+        point_no(sheet, position, point)?;
     }
-    0
+    Ok(())
 }
 
-// The first no of 11 to 20, 0 for none, where `fits` answers 16.
+// The first no of 11 to 20, where `fits` answers 16.
 #[tactic(auto, unfolding(format::specs::Sheet::questions_no))]
-pub fn questions_no(sheet: &[u8], fits: bool) -> u8
-    ensures { result ≡ questions_no sheet.now fits }
+pub fn questions_no(sheet: &[u8], fits: bool) -> Result<(), Refusal>
+    ensures { no_of result ≡ questions_no sheet.now fits }
 {
     if sheet.len() < 10 {
-        return 11;
+        return Err(Refusal::TooShort);
     }
     if byte_at(sheet, 0) != 1 {
-        return 12;
+        return Err(Refusal::FrameCount);
     }
     if !both_up_to(4096, map_width(sheet), map_height(sheet)) {
-        return 13;
+        return Err(Refusal::MapSides);
     }
     if !both_up_to(256, label_width(sheet), label_height(sheet)) {
-        return 14;
+        return Err(Refusal::LabelSides);
     }
     if point_count(sheet) > 32 {
-        return 15;
+        return Err(Refusal::PointCount);
     }
     if !fits {
-        return 16;
+        return Err(Refusal::SheetLength);
     }
     points_no(sheet)
 }
 
 // The sheet's questions, 11 to 20, in their order.
-pub fn check_sheet(sheet: &[u8]) -> SheetAnswer
-    ensures { sheet_outcome result ≡ outcome_of (sheet_no sheet.now) }
+#[tactic(auto, using(crate::proofs::Laws::outcome_by_no), unfolding(format::specs::Sheet::sheet_no))]
+pub fn check_sheet(sheet: &[u8]) -> Result<(), Refusal>
+    ensures { outcome result ≡ outcome_of (sheet_no sheet.now) }
 {
-    let no = questions_no(sheet, sheet.len() == sheet_length(sheet));
-    if no == 0 {
-        return SheetAnswer::Accepted;
-    }
-    SheetAnswer::Refused(no)
+    questions_no(sheet, sheet.len() == sheet_length(sheet))
 }

@@ -1,8 +1,9 @@
 // "A sheet is walked by a reader that keeps the sheet's bytes and the next place."
-// The work is done by functions on the sheet and a position. The functions over the reader take it apart and call those. Who walks a sheet
-// keeps a reader, and lays what `moved` returns in its place.
+// The work is done by functions on the sheet and a position. The reader's methods take it apart and call those. Who walks a sheet takes
+// the points one by one from the reader, an iterator over them.
 ghost use Rattle.std.specs.Prelude.{◌≡◌};
-ghost use Rattle.sheet_reader.specs.Reader.{point_at, left_at, place_after, reader_at, moved_on};
+ghost use Rattle.sheet_reader.specs.Reader.{point_at, left_at, place_after, reader_at, moved_on, walked};
+ghost use Rattle.std.specs.Iterator.{at_most};
 
 use format::{call_number, column, point_count, row};
 
@@ -38,11 +39,7 @@ pub fn point_at(sheet: &[u8], position: u8) -> SheetPoint
 pub fn left_at(sheet: &[u8], position: u8) -> u8
     ensures { result ≡ left_at sheet.now position }
 {
-    let n = point_count(sheet);
-    if position < n {
-        return n - position;
-    }
-    0
+    point_count(sheet).saturating_sub(position)
 }
 
 // The position after a point; the position itself where no point is left.
@@ -50,43 +47,64 @@ pub fn place_after(sheet: &[u8], position: u8) -> u8
     ensures { result ≡ place_after sheet.now position }
 {
     if position < point_count(sheet) {
-        return position + 1;
+        position + 1
+    } else {
+        position
     }
-    position
 }
 
 // OVER THE READER
 
-// A reader of a sheet that stands at a position.
-pub fn reader_at<'a>(sheet: &'a [u8], position: u8) -> SheetReader<'a>
-    ensures { result ≡ reader_at sheet.entry position }
-{
-    SheetReader {
-        sheet,
-        next: position,
+impl<'a> SheetReader<'a> {
+    // A reader of a sheet that stands at a position.
+    pub fn at(sheet: &'a [u8], position: u8) -> SheetReader<'a>
+        ensures { result ≡ reader_at sheet.entry position }
+    {
+        SheetReader {
+            sheet,
+            next: position,
+        }
+    }
+
+    // How many points are left.
+    pub fn left(self) -> u8
+        ensures { result ≡ left_at self.entry.sheet.now self.entry.next }
+    {
+        left_at(self.sheet, self.next)
+    }
+
+    // The next point.
+    pub fn next_point(self) -> SheetPoint
+        ensures { result ≡ point_at self.entry.sheet.now self.entry.next }
+    {
+        point_at(self.sheet, self.next)
+    }
+
+    // The reader past its next point; where no point is left it stays.
+    pub fn moved(self) -> SheetReader<'a>
+        ensures { result ≡ moved_on self.entry }
+    {
+        SheetReader {
+            sheet: self.sheet,
+            next: place_after(self.sheet, self.next),
+        }
     }
 }
 
-// How many points are left.
-pub fn left<'a>(reader: SheetReader<'a>) -> u8
-    ensures { result ≡ left_at reader.entry.sheet.now reader.entry.next }
-{
-    left_at(reader.sheet, reader.next)
-}
+// The points from the reader's place on, each with its position.
+impl<'a> Iterator for SheetReader<'a> {
+    type Item = (u8, SheetPoint);
 
-// The next point.
-pub fn next_point<'a>(reader: SheetReader<'a>) -> SheetPoint
-    ensures { result ≡ point_at reader.entry.sheet.now reader.entry.next }
-{
-    point_at(reader.sheet, reader.next)
-}
+    ghost next_gives = { λ reader item after. (item ≡ walked reader) × (after ≡ moved_on reader) };
 
-// The reader past its next point; where no point is left it stays.
-pub fn moved<'a>(reader: SheetReader<'a>) -> SheetReader<'a>
-    ensures { result ≡ moved_on reader.entry }
-{
-    SheetReader {
-        sheet: reader.sheet,
-        next: place_after(reader.sheet, reader.next),
+    ghost remaining = { λ reader. at_most (left_at reader.sheet.now reader.next) };
+
+    fn next(&mut self) -> Option<(u8, SheetPoint)> {
+        if self.left() == 0 {
+            return None;
+        }
+        let here = (self.next, self.next_point());
+        *self = self.moved();
+        Some(here)
     }
 }

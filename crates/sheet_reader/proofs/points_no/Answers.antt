@@ -1,31 +1,52 @@
 -- `sheet_reader::points_no` meets its contract: the reader walks the points in their order. Assumes nothing.
-use Rattle.std.proofs.Common.{◌<◌, arith, refl, sym, ◌∙◌, lt-ltb}
+use Rattle.std.proofs.Common.{◌≡◌, ◌<◌, ℕ, ltb, ltb-true, lt-ltb, Some, Err, arith, rules, refl, sym, ap, ◌∙◌}
+use Rattle.labeling.proofs.Decide.{decide}
 use Rattle.format.specs.Sheet.{point_count, points_no}
+use Rattle.format.specs.Answers.{no_of}
+use Rattle.format.proofs.Answers.{number-not-none}
+use Rattle.sheet_reader.specs.declared.reader.SheetPoint.{SheetPoint}
+use Rattle.sheet_reader.specs.declared.reader.SheetReader.{SheetReader}
+use Rattle.sheet_reader.specs.Reader.{point_at, walked}
 use Rattle.sheet_reader.proofs.Laws.{points-more, points-first}
 use Rattle.sheet_reader.proofs.points_no.Goals as goal
-use Rattle.sheet_reader.proofs.points_no.Goals.{After-point_no-no}
+use Rattle.sheet_reader.proofs.points_no.Goals.{After-branch-point_no}
 
-pub loop-reader-init : goal.loop-reader-init
+-- a point that the walk gives is there, and is the next one
+given : (r : SheetReader) (i : ℕ) (p : SheetPoint) → Some (i, p) ≡ walked r → (r.next < point_count r.sheet.now) × (i ≡ r.next)
+given r i p e =
+    decide (ltb r.next (point_count r.sheet.now))
+    (λ t. let q = rw t at e in
+    let s : (i, p) ≡ (r.next, point_at r.sheet.now r.next) = cc in
+    (ltb-true _ _ t, ap (λ (z : ℕ × SheetPoint). z.0) s))
+    (λ t. let q = rw t at e in absurd (cc))
+
+pub loop-position-init : goal.loop-position-init
 unfolding points_no
-loop-reader-init c = rw c.reader_at-reader.ensures (refl, omega arith, refl)
+loop-position-init c = rw (c.into_iter-position-iterator.ensures.into_iter_gives, c.at-position-items.ensures) (refl, omega arith, refl)
 
--- a point is left
-some_left : (c : After-point_no-no) → c.loop-reader.reader.next < point_count c.args.sheet.now
-some_left c =
-    let left = rw c.loop-reader.invariant.0 at c.left.ensures in
-    omega (arith, left, c.loop-reader-test.true)
+-- so the position is the reader's place, and below n
+place : (c : After-branch-point_no)
+    → (c.loop-position.position-iterator.next < point_count c.args.sheet.now) × (c.in-Some.position ≡ c.loop-position.position-iterator.next)
+place c =
+    rw c.loop-position.invariant.0 at (given c.loop-position.position-iterator c.in-Some.position c.in-Some.point c.in-Some.ensures.steps.0)
 
-pub returns-then-no-ne0 : goal.returns-then-no-ne0
-returns-then-no-ne0 c =
-    c.point_no-no.ensures
-    ∙ points-first _ _ _ c.loop-reader.invariant.2 (λ z. c.if-no-ne0.true (c.point_no-no.ensures ∙ z))
-    (some_left (goal.at.returns-then-no-ne0 c).After-point_no-no)
+pub returns-in_err-point_no : goal.returns-in_err-point_no
+returns-in_err-point_no c =
+    let s = c.args.sheet.now in
+    let r = c.in_err-point_no.field-0.0 in
+    let same : c.from_residual.result ≡ Err r = search rules in
+    let no = c.in_err-point_no.ensures in
+    let at = place (goal.at.returns-in_err-point_no c).After-branch-point_no in
+    ap no_of same ∙ no
+    ∙ points-first s c.in-Some.position _ (ap (points_no s) at.1 ∙ c.loop-position.invariant.2) (λ z. number-not-none r (no ∙ z))
+    (omega arith)
 
-pub loop-reader-preserved : goal.loop-reader-preserved
-loop-reader-preserved c =
-    let left = some_left (goal.at.loop-reader-preserved c).After-point_no-no in
-    rw (c.moved-reader.ensures, c.loop-reader.invariant.0, lt-ltb _ _ left) (
+pub loop-position-preserved : goal.loop-position-preserved
+loop-position-preserved c =
+    let at = place (goal.at.loop-position-preserved c).After-branch-point_no in
+    let none = rw at.1 at c.in_ok-point_no.ensures in
+    rw (c.in-Some.ensures.steps.1, c.loop-position.invariant.0, lt-ltb _ _ at.0) (
       refl,
-      omega (arith, left),
-      points-more _ _ c.loop-reader.invariant.2 (sym c.point_no-no.ensures ∙ c.if-no-ne0.false),
+      omega arith,
+      points-more _ _ c.loop-position.invariant.2 (sym none),
     )

@@ -1,8 +1,0 @@
--- `sheet_reader::both_bytes` meets its contract. Assumes nothing.
-use borrow.Author.Rules.{rules}
-use Rattle.format.specs.Sheet.{two_bytes}
-use Rattle.sheet_reader.proofs.both_bytes.Goals as goal
-
-pub returns : goal.returns
-unfolding two_bytes
-returns c = search rules
