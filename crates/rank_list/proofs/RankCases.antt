@@ -1,6 +1,5 @@
 -- Rank lists with the number of their first no, beside a sheet of n points: one table, one theorem (document 02 (e)). Assumes nothing.
-use Rattle.std.specs.Prelude.{◌≡◌, refl, Bool, true, ◌&&◌, List, [], ◌∷◌, ℕ, eqb}
-use Rattle.std.proofs.Math.Option.{Option, none, some}
+use Rattle.std.specs.Prelude.{◌≡◌, refl, Bool, true, ◌&&◌, List, [], ◌∷◌, ℕ, eqb, Option, None, Some}
 use Rattle.std.proofs.Common.{eqb-true}
 use Rattle.labeling.specs.Conflicts.{every}
 use Rattle.labeling.proofs.Decide.{and_left, and_right}
@@ -14,12 +13,12 @@ pub record Row : Type 0 where
 
 -- the list r beside a sheet of n points
 abbrev pub list : ℕ → ℕ → List ℕ → Row
-list k n r = record { points = n; ranks = some r; no = k }
+list k n r = record { points = n; ranks = Some r; no = k }
 
 abbrev pub table : List Row
 table =
     -- no list; a right one; one that is lent for no point
-    record { points = 2; ranks = none; no = 0 } ∷ list 0 2 (2 ∷ 1 ∷ 9 ∷ []) ∷ list 0 0 (0 ∷ []) ∷
+    record { points = 2; ranks = None; no = 0 } ∷ list 0 2 (2 ∷ 1 ∷ 9 ∷ []) ∷ list 0 0 (0 ∷ []) ∷
     -- "62 if the count byte is missing", with points and without
     list 62 2 [] ∷ list 62 0 [] ∷
     -- "isn't n": one less; one more; though as many ranks follow as it says
