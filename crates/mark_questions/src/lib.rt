@@ -1,67 +1,56 @@
 // The questions of a mark.
 #![tactic(auto)]
 
-ghost use Rattle.std.specs.Prelude.{◌≡◌, ◌<◌, length};
+ghost use Rattle.std.specs.Prelude.{◌≡◌, ◌<◌, length, is_some, unwrap_or};
+ghost use Rattle.format.specs.Answers.{no_of};
 ghost use Rattle.mark_questions.specs.MarkQuestions.{entry_no, entries_no, list_no, loaded_list_no, number_left, mark_no};
 
-// 32 and 33 of one entry, 0 for none.
+use format::Refusal;
+
+// The first no of 32 and 33, of one entry.
 #[tactic(auto, unfolding(crate::specs::MarkQuestions::entry_no))]
-fn entry_no(n: u8, positions: &[u8], k: usize) -> u8
+fn entry_no(n: u8, positions: &[u8], k: usize) -> Result<(), Refusal>
     requires { k < length positions.now }
-    ensures { result ≡ entry_no n positions.now k }
+    ensures { no_of result ≡ entry_no n positions.now k }
 {
     let entry = positions[k];
     if entry >= n {
-        return 32;
+        return Err(Refusal::ListPosition);
     }
-    if k == 0 {
-        return 0; // no entry before it
+    if k > 0 && entry <= positions[k - 1] {
+        return Err(Refusal::ListOrder);
     }
-    if entry <= positions[k - 1] {
-        return 33;
-    }
-    0
+    Ok(())
 }
 
-// The first no of 32 and 33, entry by entry, 0 for none.
-#[tactic(auto, unfolding(crate::specs::MarkQuestions::entries_no))]
-fn entries_no(n: u8, positions: &[u8]) -> u8
-    ensures { result ≡ entries_no n positions.now (length positions.now) }
+// The first no of 32 and 33, entry by entry.
+#[tactic(auto, using(crate::proofs::Laws::entries_first), unfolding(crate::specs::MarkQuestions::entries_no))]
+fn entries_no(n: u8, positions: &[u8]) -> Result<(), Refusal>
+    ensures { no_of result ≡ entries_no n positions.now (length positions.now) }
 {
-    let mut k = 0;
-    while k < positions.len() {
-        let no = entry_no(n, positions, k);
-        if no != 0 {
-            return no;
-        }
-        k += 1;
+    for k in 0..positions.len() {
+        entry_no(n, positions, k)?;
     }
-    0
+    Ok(())
 }
 
-// The first no of 31 to 33, 0 for none.
+// The first no of 31 to 33.
 #[tactic(auto, unfolding(crate::specs::MarkQuestions::list_no, crate::specs::MarkQuestions::count_right))]
-fn list_no(n: u8, list: &[u8]) -> u8
-    ensures { result ≡ list_no n list.now }
+fn list_no(n: u8, list: &[u8]) -> Result<(), Refusal>
+    ensures { no_of result ≡ list_no n list.now }
 {
-    if list.len() == 0 {
-        return 31;
+    match list {
+        [count, entries @ ..] if entries.len() == usize::from(*count) => entries_no(n, entries),
+        _ => Err(Refusal::ListLength),
     }
-    let count = list[0] as usize;
-    if list.len() != 1 + count {
-        return 31;
-    }
-    entries_no(n, &list[1..])
 }
 
-// 51, and then 31 to 33, 0 for none.
+// 51, and then 31 to 33: `points` is the loaded sheet's n.
 #[tactic(auto, unfolding(crate::specs::MarkQuestions::loaded_list_no))]
-fn loaded_list_no(loaded: bool, n: u8, list: &[u8]) -> u8
-    ensures { result ≡ loaded_list_no loaded n list.now }
+fn loaded_list_no(points: Option<u8>, list: &[u8]) -> Result<(), Refusal>
+    ensures { no_of result ≡ loaded_list_no (is_some points) (unwrap_or points 0) list.now }
 {
-    if !loaded {
-        return 51;
-    }
+    let n = points.ok_or(Refusal::NoSheet)?;
     list_no(n, list)
 }
 
@@ -72,17 +61,14 @@ fn number_left(last: u16) -> bool
     last < 9999
 }
 
-// The first no of a mark, 0 for none: whether a sheet is loaded, its n and the last number are the desk's.
+// The first no of a mark: n of the sheet, if one is loaded, and the last number are the desk's.
 #[tactic(auto, unfolding(crate::specs::MarkQuestions::mark_no))]
-pub fn mark_no(loaded: bool, n: u8, last: u16, list: &[u8]) -> u8
-    ensures { result ≡ mark_no loaded n last list.now }
+pub fn mark_no(points: Option<u8>, last: u16, list: &[u8]) -> Result<(), Refusal>
+    ensures { no_of result ≡ mark_no (is_some points) (unwrap_or points 0) last list.now }
 {
-    let no = loaded_list_no(loaded, n, list);
-    if no != 0 {
-        return no;
-    }
+    loaded_list_no(points, list)?;
     if !number_left(last) {
-        return 52;
+        return Err(Refusal::NoNumberLeft);
     }
-    0
+    Ok(())
 }
