@@ -1,5 +1,5 @@
 -- The theorems on the definitions of specs/ChoiceFlags.antt. Assumes nothing.
-use Rattle.std.specs.Prelude.{◌≡◌, refl, Bool, true, false, ◌||◌, List, [], ◌∷◌, ◌++◌, ℕ, zero, suc, ◌+◌, ◌<◌, eqb, length, get_or, set, take}
+use Rattle.std.specs.Prelude.{◌≡◌, refl, Bool, true, false, ◌||◌, List, [], ◌∷◌, ◌++◌, ℕ, zero, suc, ◌+◌, ◌<◌, eqb, length, get_or, set, take, Option}
 use Rattle.std.proofs.Common.{sym, ap, ◌∙◌, length-append, length-set, ext_get_or, take-suc, get_or-append-add, get_or-set_same, get_or-set_other, eq-eqb, ne_eqb, add-one, arith}
 use Rattle.std.proofs.lemmas.List.{get_or-replicate}
 use Rattle.std.proofs.Math.ListN.{get_or-append}
@@ -66,7 +66,7 @@ flags-more flags list k l b h =
 
 -- ONLY POSITIONS BELOW n MATTER to the first clash.
 
-first-same : (f g : ℕ → Clash) (m : ℕ) → ((i : ℕ) → i < m → f i ≡ g i) → first_of f m ≡ first_of g m
+first-same : (f g : ℕ → Option Clash) (m : ℕ) → ((i : ℕ) → i < m → f i ≡ g i) → first_of f m ≡ first_of g m
 unfolding first_of
 first-same f g zero e = refl
 first-same f g (suc m) e = rw (first-same f g m (λ i l. e i (omega arith)), e m (omega arith))

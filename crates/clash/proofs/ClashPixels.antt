@@ -1,7 +1,8 @@
 -- On an accepted sheet the first clash is none exactly if the choice is valid, and otherwise it is the first, in the documents' order, of
 -- the labels that leave the map and the pairs of points that mark one pixel, with the kind that the documents give it. Assumes nothing.
-use Rattle.std.specs.Prelude.{◌≡◌, refl, Bool, false, ◌⊎◌, ◌↔◌, List, ℕ, zero, suc, ◌≤◌, ◌<◌}
+use Rattle.std.specs.Prelude.{◌≡◌, refl, Bool, false, ◌⊎◌, ◌↔◌, List, ℕ, zero, suc, ◌≤◌, ◌<◌, Option, None, Some}
 use Rattle.std.proofs.Common.{sym, ap, ◌∙◌, inl, inr, lt-ltb, le-ltb}
+use Rattle.std.proofs.lemmas.Option.{same_Some}
 use native.Mathlib.Omega.{arith}
 use Rattle.labeling.specs.Points.{Points, Choice, DistinctRows}
 use Rattle.labeling.specs.Marks.{LabelOnMap, Valid, label_on_map_b}
@@ -14,50 +15,53 @@ use Rattle.format.specs.Accepted.{Accepted}
 use Rattle.clash.specs.declared.ClashKind.{ClashKind}
 use Rattle.clash.specs.declared.ClashKind.TheVariants.{Labels, LabelAndLeader, Overhang, TwoLeaders}
 use Rattle.clash.specs.declared.Clash.{Clash}
-use Rattle.clash.specs.declared.Clash.TheVariants.{None, Between}
-use Rattle.clash.specs.FirstClash.{is_clash, or_else, clash_if, pair_clash, own_clash, first_of, ordered_clash}
+use Rattle.clash.specs.FirstClash.{is_clash, or_else, between, clash_if, pair_clash, own_clash, first_of, ordered_clash}
 use Rattle.clash.specs.FirstClash.{later_clash, clash_of, first_clash}
 use Rattle.clash.specs.ClashPixels.{FirstAt, Clashing, KindOf, Named, ClashIs, apart, met, FirstClashRight}
 
 -- none is no clash
-none_between : {c : Clash} {i j : ℕ} {k : ClashKind} → c ≡ None → c ≡ Between i j k → ⊥
+none_between : {c : Option Clash} {i j : ℕ} {k : ClashKind} → c ≡ None → c ≡ between i j k → ⊥
 none_between e q = not-both (ap is_clash q) (ap is_clash e)
 
-pub no-clash : (c : Clash) → is_clash c ≡ false → c ≡ None
+pub no-clash : (c : Option Clash) → is_clash c ≡ false → c ≡ None
 no-clash None e = refl
-no-clash (Between i j k) e = absurd (not-both refl e)
+no-clash (Some c) e = absurd (not-both refl e)
+
+-- two clashes that are the same have the same positions and kind
+same-between : {i j a b : ℕ} {k m : ClashKind} → between i j k ≡ between a b m → (i ≡ a) × (j ≡ b) × (k ≡ m)
+same-between e = let h = same_Some _ _ e in (ap (λ (c : Clash). c.first) h, ap (λ (c : Clash). c.second) h, ap (λ (c : Clash). c.kind) h)
 
 -- THE FIRST OF SEVERAL
 
-or-none : (c d : Clash) → or_else c d ≡ None → (c ≡ None) × (d ≡ None)
+or-none : (c d : Option Clash) → or_else c d ≡ None → (c ≡ None) × (d ≡ None)
 or-none None d e = (refl, e)
-or-none (Between i j k) d e = absurd (none_between e refl)
+or-none (Some c) d e = absurd (not-both refl (ap is_clash e))
 
-or-between : (c d : Clash) {i j : ℕ} {k : ClashKind} → or_else c d ≡ Between i j k → (c ≡ Between i j k) ⊎ ((c ≡ None) × (d ≡ Between i j k))
+or-between : (c d : Option Clash) {i j : ℕ} {k : ClashKind} → or_else c d ≡ between i j k → (c ≡ between i j k) ⊎ ((c ≡ None) × (d ≡ between i j k))
 or-between None d e = inr (refl, e)
-or-between (Between i j k) d e = inl e
+or-between (Some c) d e = inl e
 
 -- none, if each is none
-pub first-none : (f : ℕ → Clash) (m : ℕ) → ((i : ℕ) → i < m → f i ≡ None) → first_of f m ≡ None
+pub first-none : (f : ℕ → Option Clash) (m : ℕ) → ((i : ℕ) → i < m → f i ≡ None) → first_of f m ≡ None
 unfolding first_of
 first-none f zero n = refl
 first-none f (suc m) n = rw (first-none f m (λ i l. n i (omega arith))) (n m (omega arith))
 
 -- each is none, if the first is
-pub none_first : (f : ℕ → Clash) (m : ℕ) → first_of f m ≡ None → (i : ℕ) → i < m → f i ≡ None
+pub none_first : (f : ℕ → Option Clash) (m : ℕ) → first_of f m ≡ None → (i : ℕ) → i < m → f i ≡ None
 unfolding first_of
 none_first f zero e i l = absurd (omega arith)
 none_first f (suc m) e i l =
     let o = or-none (first_of f m) (f m) e in
     same i m (λ q. rw q o.1) (λ ne. none_first f m o.0 i (omega arith))
 
-first-at : (f : ℕ → Clash) (m : ℕ) {i j : ℕ} {k : ClashKind} → first_of f m ≡ Between i j k → FirstAt f m (Between i j k)
+first-at : (f : ℕ → Option Clash) (m : ℕ) {i j : ℕ} {k : ClashKind} → first_of f m ≡ between i j k → FirstAt f m (between i j k)
 unfolding first_of
 first-at f zero e = absurd (none_between refl e)
 first-at f (suc m) {i} {j} {k} e = which (or-between (first_of f m) (f m) e) (first-at f m)
   where
-    which : (first_of f m ≡ Between i j k) ⊎ ((first_of f m ≡ None) × (f m ≡ Between i j k))
-        → (first_of f m ≡ Between i j k → FirstAt f m (Between i j k)) → FirstAt f (suc m) (Between i j k)
+    which : (first_of f m ≡ between i j k) ⊎ ((first_of f m ≡ None) × (f m ≡ between i j k))
+        → (first_of f m ≡ between i j k → FirstAt f m (between i j k)) → FirstAt f (suc m) (between i j k)
     which (inl q) ih = let r = ih q in record { at = r.at; below = omega (arith, r.below); is = r.is; earlier = r.earlier }
     which (inr q) ih = record { at = m; below = omega arith; is = q.1; earlier = none_first f m q.0 }
 
@@ -94,20 +98,20 @@ clash-if P S i j k {b} d kind =
     (λ e. rw e (met (d.is e) kind))
     (λ e. rw e (apart (λ c. not-both (d.of c) e)))
 
-is_none : {P : Points} {S : Choice} {i j : ℕ} {c : Clash} → ClashIs P S i j c → c ≡ None → Clashing P S i j → ⊥
+is_none : {P : Points} {S : Choice} {i j : ℕ} {c : Option Clash} → ClashIs P S i j c → c ≡ None → Clashing P S i j → ⊥
 is_none (apart not) e = not
 is_none (met c kind) e = absurd (none_between e refl)
 
-none_is : {P : Points} {S : Choice} {i j : ℕ} {c : Clash} → ClashIs P S i j c → (Clashing P S i j → ⊥) → c ≡ None
+none_is : {P : Points} {S : Choice} {i j : ℕ} {c : Option Clash} → ClashIs P S i j c → (Clashing P S i j → ⊥) → c ≡ None
 none_is (apart not) y = refl
 none_is (met c kind) y = absurd (y c)
 
-is-met : {P : Points} {S : Choice} {i j a b : ℕ} {k : ClashKind} {c : Clash} → ClashIs P S i j c → c ≡ Between a b k
+is-met : {P : Points} {S : Choice} {i j a b : ℕ} {k : ClashKind} {c : Option Clash} → ClashIs P S i j c → c ≡ between a b k
     → (i ≡ a) × (j ≡ b) × Clashing P S i j × KindOf k S i j
 is-met (apart not) e = absurd (none_between refl e)
 is-met {P} {S} {i} {j} {a} {b} {k} (met {k = m} c kind) e =
-    let q : m ≡ k = cc in
-    (cc, cc, c, rw q at kind)
+    let h = same-between e in
+    (h.0, h.1, c, rw h.2 at kind)
 
 -- of a position with itself
 own_is : (P : Points) (S : Choice) (i : ℕ) → ClashIs P S i i (own_clash P S i)
@@ -202,7 +206,7 @@ module _ (P : Points) (S : Choice) (wide : 1 ≤ P.w) where
   none-valid = (λ e. apart-valid (none-clashing e), valid-none)
 
   -- a clash with its kind is named, if nothing clashes before it
-  named : {a b i j : ℕ} {k : ClashKind} {c : Clash} → ClashIs P S a b c → c ≡ Between i j k → a ≤ b → b < P.n
+  named : {a b i j : ℕ} {k : ClashKind} {c : Option Clash} → ClashIs P S a b c → c ≡ between i j k → a ≤ b → b < P.n
       → ((c : ℕ) → c < a → clash_of P S c ≡ None) → ((d : ℕ) → a ≤ d → d < b → Clashing P S a d → ⊥) → Named P S i j k
   named {a} {b} {i} {j} {k} x e l m f g =
       let p = is-met x e in
@@ -218,7 +222,7 @@ module _ (P : Points) (S : Choice) (wide : 1 ≤ P.w) where
       earlier c d u v (inl y) = none_from c (f c y) d u v
       earlier c d u v (inr y) = rw y.0 (g d (omega arith) y.1)
 
-  between-named : {i j : ℕ} {k : ClashKind} → first_clash P S ≡ Between i j k → Named P S i j k
+  between-named : {i j : ℕ} {k : ClashKind} → first_clash P S ≡ between i j k → Named P S i j k
   unfolding first_clash clash_of later_clash
   between-named {i} {j} {k} e =
       let x = first-at (clash_of P S) P.n e in
@@ -226,7 +230,7 @@ module _ (P : Points) (S : Choice) (wide : 1 ≤ P.w) where
     where
       -- the pair of a and the first later position
       later : (a : ℕ) → ((c : ℕ) → c < a → clash_of P S c ≡ None) → own_clash P S a ≡ None
-          → (y : FirstAt (ordered_clash P S a) P.n (Between i j k)) → Named P S i j k
+          → (y : FirstAt (ordered_clash P S a) P.n (between i j k)) → Named P S i j k
       later a f o y =
           less a y.at
           (λ u. named (ordered-is a y.at u y.below) y.is (omega arith) y.below f before)
@@ -239,7 +243,7 @@ module _ (P : Points) (S : Choice) (wide : 1 ≤ P.w) where
               (λ g. let q : a ≡ d = omega arith in rw (← q) (is_none (own_is P S a) o))
 
       which : (a : ℕ) → a < P.n → ((c : ℕ) → c < a → clash_of P S c ≡ None)
-          → (own_clash P S a ≡ Between i j k) ⊎ ((own_clash P S a ≡ None) × (later_clash P S a ≡ Between i j k)) → Named P S i j k
+          → (own_clash P S a ≡ between i j k) ⊎ ((own_clash P S a ≡ None) × (later_clash P S a ≡ between i j k)) → Named P S i j k
       which a m f (inl q) = named (own_is P S a) q (omega arith) m f (λ d l v. absurd (omega arith))
       which a m f (inr q) = later a f q.0 (first-at (ordered_clash P S a) P.n q.1)
 
@@ -248,7 +252,7 @@ module _ (P : Points) (S : Choice) (wide : 1 ≤ P.w) where
   named-least {i} {j} {a} {b} x y o = x.earlier a b y.ordered y.below o y.clashing
 
   -- ONE CLASH IS NAMED: two that are named are the same.
-  pub named-once : {i j a b : ℕ} {k m : ClashKind} → Named P S i j k → Named P S a b m → Between i j k ≡ Between a b m
+  pub named-once : {i j a b : ℕ} {k m : ClashKind} → Named P S i j k → Named P S a b m → between i j k ≡ between a b m
   named-once {i} {j} {a} {b} {k} {m} x y =
       same i a
       (λ p. same j b
@@ -260,15 +264,15 @@ module _ (P : Points) (S : Choice) (wide : 1 ≤ P.w) where
       (λ l. absurd (named-least y x (inl l)))
       (λ g. absurd (named-least x y (inl (omega arith)))))
 
-  named-between : {i j : ℕ} {k : ClashKind} → Named P S i j k → first_clash P S ≡ Between i j k
+  named-between : {i j : ℕ} {k : ClashKind} → Named P S i j k → first_clash P S ≡ between i j k
   named-between {i} {j} {k} x = which (first_clash P S) refl
     where
-      which : (c : Clash) → first_clash P S ≡ c → first_clash P S ≡ Between i j k
+      which : (c : Option Clash) → first_clash P S ≡ c → first_clash P S ≡ between i j k
       which None e = absurd (none-clashing e i j x.ordered x.below x.clashing)
-      which (Between a b m) e = e ∙ named-once (between-named e) x
+      which (Some c) e = e ∙ named-once (between-named e) x
 
   -- A CLASH EXACTLY IF THE DOCUMENTS NAME IT
-  pub between-iff : (i j : ℕ) (k : ClashKind) → (first_clash P S ≡ Between i j k) ↔ Named P S i j k
+  pub between-iff : (i j : ℕ) (k : ClashKind) → (first_clash P S ≡ between i j k) ↔ Named P S i j k
   between-iff i j k = (between-named, named-between)
 
 pub first-clash-right : (s : List ℕ) (S : Choice) → Accepted s → FirstClashRight (points_of s) S

@@ -1,17 +1,16 @@
 -- What proofs/ClashPixels.antt proves: on an accepted sheet the first clash is none exactly if the choice is valid, and otherwise it is
 -- the first, in the documents' order, of the labels that leave the map and the pairs of points that mark one pixel, with the kind that the
 -- documents give it. Assumes nothing.
-use Rattle.std.specs.Prelude.{◌≡◌, true, false, ◌⊎◌, ◌↔◌, ℕ, ◌≤◌, ◌<◌}
+use Rattle.std.specs.Prelude.{◌≡◌, true, false, ◌⊎◌, ◌↔◌, ℕ, ◌≤◌, ◌<◌, Option, None}
 use Rattle.labeling.specs.Points.{Points, Choice}
 use Rattle.labeling.specs.Marks.{Shared, LabelOnMap, Valid}
 use Rattle.clash.specs.declared.ClashKind.{ClashKind}
 use Rattle.clash.specs.declared.ClashKind.TheVariants.{Labels, LabelAndLeader, Overhang, TwoLeaders}
 use Rattle.clash.specs.declared.Clash.{Clash}
-use Rattle.clash.specs.declared.Clash.TheVariants.{None, Between}
-use Rattle.clash.specs.FirstClash.{first_clash}
+use Rattle.clash.specs.FirstClash.{between, first_clash}
 
 -- The first clash c of f is that at one number, and no smaller number has one.
-pub record FirstAt (f : ℕ → Clash) (m : ℕ) (c : Clash) : Type 0 where
+pub record FirstAt (f : ℕ → Option Clash) (m : ℕ) (c : Option Clash) : Type 0 where
   pub at : ℕ
   pub below : at < m
   pub is : f at ≡ c
@@ -45,12 +44,12 @@ pub record Named (P : Points) (S : Choice) (i j : ℕ) (k : ClashKind) : Type 0 
   pub earlier : (a b : ℕ) → a ≤ b → b < P.n → (a < i) ⊎ ((a ≡ i) × (b < j)) → Clashing P S a b → ⊥
 
 -- A CLASH OF TWO POSITIONS: none, and they don't clash; or the two, with their kind, and they do.
-pub data ClashIs (P : Points) (S : Choice) (i j : ℕ) : Clash → Type 0 where
+pub data ClashIs (P : Points) (S : Choice) (i j : ℕ) : Option Clash → Type 0 where
   apart : (Clashing P S i j → ⊥) → ClashIs P S i j None
-  met : {k : ClashKind} → Clashing P S i j → KindOf k S i j → ClashIs P S i j (Between i j k)
+  met : {k : ClashKind} → Clashing P S i j → KindOf k S i j → ClashIs P S i j (between i j k)
 
 -- WHAT THE THEOREM SAYS: on an accepted sheet the first clash is none exactly if no pixel is marked by two points and no inside label
 -- leaves the map, and it is two positions with a kind exactly if the documents name them and that kind.
 pub record FirstClashRight (P : Points) (S : Choice) : Type 0 where
   pub none : (first_clash P S ≡ None) ↔ Valid P S
-  pub between : (i j : ℕ) (k : ClashKind) → (first_clash P S ≡ Between i j k) ↔ Named P S i j k
+  pub between : (i j : ℕ) (k : ClashKind) → (first_clash P S ≡ between i j k) ↔ Named P S i j k

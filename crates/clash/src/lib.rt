@@ -6,8 +6,8 @@ ghost use Rattle.labeling.specs.Conflicts.{overlap_b, hits_b};
 ghost use Rattle.format.specs.Sheet.{point_count, row as row_of, points_of};
 ghost use Rattle.format.specs.Plate.{choice_of};
 ghost use Rattle.format.specs.Stretches.{stretches_overlap};
-ghost use Rattle.clash.specs.FirstClash.{is_clash, clash_if, pair_clash, own_clash, later_clash, clash_of, first_clash};
-ghost use Rattle.clash.specs.ChoiceFlags.{nobody_inside, held, flags_of};
+ghost use Rattle.clash.specs.FirstClash.{pair_clash, own_clash, later_clash, clash_of, first_clash};
+ghost use Rattle.clash.specs.ChoiceFlags.{held, flags_of};
 
 use format::{column, label_height, label_on_map, label_width, point_count, row, within};
 
@@ -20,51 +20,21 @@ pub enum ClashKind {
     TwoLeaders,
 }
 
-// No clash, or the two positions that clash and how. An overhang is a clash of a position with itself.
+// The two positions that clash and how. An overhang is a clash of a position with itself.
 #[derive(Clone, Copy)]
-pub enum Clash {
-    None,
-    Between {
-        first: u8,
-        second: u8,
-        kind: ClashKind,
-    },
-}
-
-// There is a clash.
-pub fn is_clash(clash: Clash) -> bool
-    ensures { result ≡ is_clash clash }
-{
-    if let Clash::Between {
-        first: _,
-        second: _,
-        kind: _,
-    } = clash
-    {
-        true
-    } else {
-        false
-    }
-}
-
-// Flags with no position inside.
-#[tactic(auto, unfolding(crate::specs::ChoiceFlags::nobody_inside))]
-fn nobody_inside() -> [bool; 256]
-    ensures { result ≡ nobody_inside }
-{
-    [false; 256]
+pub struct Clash {
+    pub first: u8,
+    pub second: u8,
+    pub kind: ClashKind,
 }
 
 // The choice with just the listed positions inside, a flag for each position.
 pub fn choice_of(list: &[u8]) -> [bool; 256]
     ensures { result ≡ flags_of list.now }
 {
-    let mut inside = nobody_inside();
-    let mut k = 0;
-    while k < list.len() {
-        let position = list[k] as usize;
-        inside[position] = true;
-        k += 1;
+    let mut inside = [false; 256];
+    for position in list {
+        inside[usize::from(*position)] = true;
     }
     inside
 }
@@ -73,20 +43,15 @@ pub fn choice_of(list: &[u8]) -> [bool; 256]
 fn stretches_overlap(a: u16, b: u16, length: u16) -> bool
     ensures { result ≡ stretches_overlap a b length }
 {
-    if within(a, b, length) {
-        return within(b, a, length);
-    }
-    false
+    within(a, b, length) && within(b, a, length)
 }
 
 // The labels of two positions share a pixel.
 fn labels_overlap(sheet: &[u8], i: u8, j: u8) -> bool
     ensures { result ≡ overlap_b (points_of sheet.now) i j }
 {
-    if stretches_overlap(column(sheet, i), column(sheet, j), label_width(sheet)) {
-        return stretches_overlap(row(sheet, i), row(sheet, j), label_height(sheet));
-    }
-    false
+    stretches_overlap(column(sheet, i), column(sheet, j), label_width(sheet))
+        && stretches_overlap(row(sheet, i), row(sheet, j), label_height(sheet))
 }
 
 // The label of position i shares a pixel with the leader of position j.
@@ -95,13 +60,9 @@ fn label_hits_leader(sheet: &[u8], i: u8, j: u8) -> bool
 {
     let low = row(sheet, i);
     let leader = row(sheet, j);
-    if leader < low {
-        return false;
-    }
-    if within(leader, low, label_height(sheet)) {
-        return column(sheet, i) <= column(sheet, j);
-    }
-    false
+    low <= leader
+        && within(leader, low, label_height(sheet))
+        && column(sheet, i) <= column(sheet, j)
 }
 
 // The leaders of two positions share pixels: they are in one row.
@@ -111,118 +72,88 @@ fn leaders_meet(sheet: &[u8], i: u8, j: u8) -> bool
     row(sheet, i) == row(sheet, j)
 }
 
-// A clash where a test says that there is one.
-fn clash_if(met: bool, first: u8, second: u8, kind: ClashKind) -> Clash
-    ensures { result ≡ clash_if met first second kind }
-{
-    if met {
-        return Clash::Between {
-            first,
-            second,
-            kind,
+// A sheet and a choice of its points: for each position that a byte can name, whether it is inside.
+#[derive(Clone, Copy)]
+pub struct SheetChoice<'a> {
+    pub sheet: &'a [u8],
+    pub inside: [bool; 256],
+}
+
+impl SheetChoice<'_> {
+    // The clash of two positions.
+    #[tactic(auto, unfolding(crate::specs::FirstClash::pair_clash))]
+    fn pair_clash(&self, i: u8, j: u8) -> Option<Clash>
+        ensures { result ≡ pair_clash (points_of self.now.sheet.now) (held self.now.inside) i j }
+    {
+        let (met, kind) = match (self.inside[usize::from(i)], self.inside[usize::from(j)]) {
+            (true, true) => (labels_overlap(self.sheet, i, j), ClashKind::Labels),
+            (true, false) => (
+                label_hits_leader(self.sheet, i, j),
+                ClashKind::LabelAndLeader,
+            ),
+            (false, true) => (
+                label_hits_leader(self.sheet, j, i),
+                ClashKind::LabelAndLeader,
+            ),
+            (false, false) => (leaders_meet(self.sheet, i, j), ClashKind::TwoLeaders),
         };
+        met.then_some(Clash {
+            first: i,
+            second: j,
+            kind,
+        })
     }
-    Clash::None
-}
 
-// The clash of two positions.
-#[tactic(auto, unfolding(crate::specs::FirstClash::pair_clash))]
-fn pair_clash(sheet: &[u8], inside: &[bool; 256], i: u8, j: u8) -> Clash
-    ensures { result ≡ pair_clash (points_of sheet.now) (held inside.now) i j }
-{
-    let i_inside = inside[i as usize];
-    let j_inside = inside[j as usize];
-    if i_inside {
-        if j_inside {
-            return clash_if(labels_overlap(sheet, i, j), i, j, ClashKind::Labels);
+    // The clash of a position with itself: it is inside and its label leaves the map.
+    #[tactic(auto, unfolding(crate::specs::FirstClash::own_clash))]
+    fn own_clash(&self, position: u8) -> Option<Clash>
+        ensures { result ≡ own_clash (points_of self.now.sheet.now) (held self.now.inside) position }
+    {
+        let overhangs = self.inside[usize::from(position)] && !label_on_map(self.sheet, position);
+        overhangs.then_some(Clash {
+            first: position,
+            second: position,
+            kind: ClashKind::Overhang,
+        })
+    }
+
+    // The clash of a position with the smallest position above it that it clashes with.
+    fn later_clash(&self, first: u8) -> Option<Clash>
+        requires { first < point_count self.now.sheet.now }
+        ensures { result ≡ later_clash (points_of self.now.sheet.now) (held self.now.inside) first }
+    {
+        let n = point_count(self.sheet);
+        (first + 1..n).find_map(|second| self.pair_clash(first, second))
+    }
+
+    // The clash of a position with itself, or else with the smallest position above it that it clashes with.
+    #[tactic(auto, unfolding(crate::specs::FirstClash::clash_of))]
+    fn clash_of(&self, first: u8) -> Option<Clash>
+        requires { first < point_count self.now.sheet.now }
+        ensures { result ≡ clash_of (points_of self.now.sheet.now) (held self.now.inside) first }
+    {
+        // An `or_else` here has no proof: of a closure that captures self, it ensures nothing.
+        match self.own_clash(first) {
+            None => self.later_clash(first),
+            own => own,
         }
-        return clash_if(
-            label_hits_leader(sheet, i, j),
-            i,
-            j,
-            ClashKind::LabelAndLeader,
-        );
     }
-    if j_inside {
-        return clash_if(
-            label_hits_leader(sheet, j, i),
-            i,
-            j,
-            ClashKind::LabelAndLeader,
-        );
-    }
-    clash_if(leaders_meet(sheet, i, j), i, j, ClashKind::TwoLeaders)
-}
 
-// The clash of a position with itself: it is inside and its label leaves the map.
-#[tactic(auto, unfolding(crate::specs::FirstClash::own_clash))]
-fn own_clash(sheet: &[u8], inside: &[bool; 256], position: u8) -> Clash
-    ensures { result ≡ own_clash (points_of sheet.now) (held inside.now) position }
-{
-    let is_inside = inside[position as usize];
-    if is_inside {
-        return clash_if(
-            !label_on_map(sheet, position),
-            position,
-            position,
-            ClashKind::Overhang,
-        );
+    // The first clash.
+    fn first_clash(&self) -> Option<Clash>
+        ensures { result ≡ first_clash (points_of self.now.sheet.now) (held self.now.inside) }
+    {
+        (0..point_count(self.sheet)).find_map(|first| self.clash_of(first))
     }
-    Clash::None
-}
-
-// The clash of a position with the smallest position above it that it clashes with.
-#[tactic(auto, unfolding(crate::specs::FirstClash::later_clash))]
-fn later_clash(sheet: &[u8], inside: &[bool; 256], first: u8) -> Clash
-    requires { first < point_count sheet.now }
-    ensures { result ≡ later_clash (points_of sheet.now) (held inside.now) first }
-{
-    let n = point_count(sheet);
-    let mut second = first + 1;
-    while second < n {
-        let clash = pair_clash(sheet, inside, first, second);
-        if is_clash(clash) {
-            return clash;
-        }
-        second += 1;
-    }
-    Clash::None
-}
-
-// The clash of a position with itself, or else with the smallest position above it that it clashes with.
-#[tactic(auto, unfolding(crate::specs::FirstClash::clash_of))]
-fn clash_of(sheet: &[u8], inside: &[bool; 256], first: u8) -> Clash
-    requires { first < point_count sheet.now }
-    ensures { result ≡ clash_of (points_of sheet.now) (held inside.now) first }
-{
-    let own = own_clash(sheet, inside, first);
-    if is_clash(own) {
-        return own;
-    }
-    later_clash(sheet, inside, first)
-}
-
-// The first clash of the choice that the flags hold.
-#[tactic(auto, unfolding(crate::specs::FirstClash::first_of, crate::specs::FirstClash::first_clash))]
-fn first_clash_of(sheet: &[u8], inside: &[bool; 256]) -> Clash
-    ensures { result ≡ first_clash (points_of sheet.now) (held inside.now) }
-{
-    let n = point_count(sheet);
-    let mut first: u8 = 0;
-    while first < n {
-        let clash = clash_of(sheet, inside, first);
-        if is_clash(clash) {
-            return clash;
-        }
-        first += 1;
-    }
-    Clash::None
 }
 
 // The first clash of the choice with the listed positions inside.
-pub fn first_clash(sheet: &[u8], list: &[u8]) -> Clash
+pub fn first_clash(sheet: &[u8], list: &[u8]) -> Option<Clash>
     ensures { result ≡ first_clash (points_of sheet.now) (choice_of list.now) }
 {
-    let inside = choice_of(list);
-    first_clash_of(sheet, &inside)
+    let choice = SheetChoice {
+        sheet,
+        inside: choice_of(list),
+    };
+    choice.first_clash()
 }

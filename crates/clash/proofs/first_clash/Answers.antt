@@ -6,5 +6,5 @@ use Rattle.clash.proofs.first_clash.Goals as goal
 
 pub returns : goal.returns
 returns c =
-    c.first_clash_of.ensures
-    ∙ first-clash-same _ _ _ (λ i l. flags-hold _ _ c.choice_of-inside.ensures i (omega (arith, c.type_inv.sheet 9)))
+    c.first_clash.ensures
+    ∙ first-clash-same _ _ _ (λ i l. flags-hold _ _ c.choice_of.ensures i (omega (arith, c.type_inv.sheet 9)))
