@@ -1,6 +1,6 @@
 -- Document 01's cases P1 to P10, and of document 02 labels at the map's edges (a), stacked outer labels (b), shared rows (c), ties (d) and
 -- ranks (e): each case of specs/Cases.antt is right. The tests only compute it. Assumes nothing.
-use Rattle.std.specs.Prelude.{◌≡◌, refl, Bool, true, false, cond, ◌&&◌, List, [], ◌∷◌, ◌++◌, ℕ, T, eqb}
+use Rattle.std.specs.Prelude.{Option, None, Some, ◌≡◌, refl, Bool, true, false, cond, ◌&&◌, List, [], ◌∷◌, ◌++◌, ℕ, T, eqb}
 use Rattle.std.proofs.Common.{sym, ap, ◌∙◌, eqb-true}
 use Rattle.labeling.specs.Points.{before, insert, outside_below, outside, next_margin, placed_from, placed, among}
 use Rattle.labeling.specs.Conflicts.{conflict_b, apart_b, within_b, valid_b, every}
@@ -19,8 +19,7 @@ use Rattle.format.specs.Ascending.{ascending}
 use Rattle.clash.specs.declared.ClashKind.{ClashKind}
 use Rattle.clash.specs.declared.ClashKind.TheVariants.{Labels, LabelAndLeader, Overhang, TwoLeaders}
 use Rattle.clash.specs.declared.Clash.{Clash}
-use Rattle.clash.specs.declared.Clash.TheVariants.{None, Between}
-use Rattle.clash.specs.FirstClash.{pair_clash, own_clash, first_of, later_clash, clash_of, first_clash}
+use Rattle.clash.specs.FirstClash.{between, pair_clash, own_clash, first_of, later_clash, clash_of, first_clash}
 use Rattle.clash.proofs.ClashPixels.{first-clash-right}
 use Rattle.plate_reader.specs.PlateQuestions.{sheet_of, inside_list, outside_pairs, sections_fit, pairs_right, sections_no, plate_no}
 pub use Rattle.plate_reader.specs.Cases.{Expected, made_with, valid, clashes, made, Case, at, sheet, sheet1, sheet2, sheet8}
@@ -38,9 +37,9 @@ kind_place TwoLeaders = 3
 abbrev kind_at : ℕ → ClashKind
 kind_at k = cond (eqb k 0) Labels (cond (eqb k 1) LabelAndLeader (cond (eqb k 2) Overhang TwoLeaders))
 
-abbrev same_clash : Clash → ℕ → ℕ → ClashKind → Bool
+abbrev same_clash : Option Clash → ℕ → ℕ → ClashKind → Bool
 same_clash None i j k = false
-same_clash (Between a b m) i j k = eqb a i && (eqb b j && eqb (kind_place m) (kind_place k))
+same_clash (Some c) i j k = eqb c.first i && (eqb c.second j && eqb (kind_place c.kind) (kind_place k))
 
 abbrev says_b : Expected → Case → Bool
 says_b (made_with r) c =
@@ -70,14 +69,14 @@ kind-back TwoLeaders = refl
 same_kind : (m k : ClashKind) → eqb (kind_place m) (kind_place k) ≡ true → m ≡ k
 same_kind m k e = sym (kind-back m) ∙ ap kind_at (eqb-true (kind_place m) (kind_place k) e) ∙ kind-back k
 
-same-clash : (c : Clash) (i j : ℕ) (k : ClashKind) → same_clash c i j k ≡ true → c ≡ Between i j k
+same-clash : (c : Option Clash) (i j : ℕ) (k : ClashKind) → same_clash c i j k ≡ true → c ≡ between i j k
 same-clash None i j k e = absurd (not-both e refl)
-same-clash (Between a b m) i j k e =
-    let e₁ = and_right (eqb a i) _ e in
-    let p : a ≡ i = eqb-true a i (and_left _ _ e) in
-    let q : b ≡ j = eqb-true b j (and_left _ _ e₁) in
-    let r : m ≡ k = same_kind m k (and_right (eqb b j) _ e₁) in
-    λ d. Between (p d) (q d) (r d)
+same-clash (Some c) i j k e =
+    let e₁ = and_right (eqb c.first i) _ e in
+    let p : c.first ≡ i = eqb-true c.first i (and_left _ _ e) in
+    let q : c.second ≡ j = eqb-true c.second j (and_left _ _ e₁) in
+    let r : c.kind ≡ k = same_kind c.kind k (and_right (eqb c.second j) _ e₁) in
+    λ d. between (p d) (q d) (r d)
 
 says : (x : Expected) (c : Case) → Accepted c.sheet → says_b x c ≡ true → Says x c
 says (made_with r) c a e =

@@ -1,6 +1,6 @@
 -- What the questions of a plate ask, as facts; a plate's bytes from its sections, and its sections from the bytes that plate_of gives.
 -- Assumes nothing.
-use Rattle.std.specs.Prelude.{◌≡◌, true, not, List, [], ◌∷◌, ◌++◌, ℕ, suc, ◌+◌, ◌*◌, ◌≤◌, ◌<◌, get_or}
+use Rattle.std.specs.Prelude.{Option, None, Some, ◌≡◌, true, not, List, [], ◌∷◌, ◌++◌, ℕ, suc, ◌+◌, ◌*◌, ◌≤◌, ◌<◌, get_or}
 use Rattle.std.proofs.Math.Path.{refl, sym, ap, ap₂}
 use Rattle.std.proofs.Common.{◌∙◌, append_assoc, length-drop, take-append-drop, drop-cons, drop-drop, arith}
 use Rattle.std.proofs.Math.ListN.{length, take, drop, length-append, get_or-append}
@@ -18,7 +18,6 @@ use Rattle.format.proofs.PlateLength.{inside-length, inside-outside}
 use Rattle.format.specs.Ascending.{ascending}
 use Rattle.format.proofs.InsideList.{list-of-choice}
 use Rattle.clash.specs.declared.Clash.{Clash}
-use Rattle.clash.specs.declared.Clash.TheVariants.{None, Between}
 use Rattle.clash.specs.FirstClash.{is_clash, first_clash}
 use Rattle.plate_reader.specs.PlateQuestions.{sheet_of, inside_count, inside_start, inside_list, outside_start}
 use Rattle.plate_reader.specs.PlateQuestions.{outside_count, outside_pairs, sections_fit, pairs_right, sections_no, plate_no}
@@ -32,9 +31,9 @@ dec-fit p =
     record { is = λ e. let x = d.is e in record { ends = x.0; together = x.1 }; of = λ f. d.of (f.ends, f.together) }
 
 -- 44: there is no clash.
-dec-none : (c : Clash) → Decides (not (is_clash c)) (c ≡ None)
+dec-none : (c : Option Clash) → Decides (not (is_clash c)) (c ≡ None)
 dec-none None = record { is = λ e. refl; of = λ e. refl }
-dec-none (Between i j k) = record { is = λ e. absurd (not-both refl (sym e)); of = λ e. absurd (not-both refl (ap is_clash e)) }
+dec-none (Some c) = record { is = λ e. absurd (not-both refl (sym e)); of = λ e. absurd (not-both refl (ap is_clash e)) }
 
 none-sections : (p : List ℕ)
     → NoneOf (sections_no p)

@@ -1,8 +1,7 @@
 -- Sheets with the number of their first no: one table, one theorem. It shows each question 11 to 20 refuse something, each limit from
 -- both sides, and the order of the questions where a sheet has several that are answered no. Then plates whose outside pairs aren't the
 -- rule's, sheets without a valid choice, and wrong rank lists beside them. Assumes nothing.
-use Rattle.std.specs.Prelude.{◌≡◌, refl, Bool, true, ◌&&◌, List, [], ◌∷◌, ◌++◌, ℕ, zero, suc, pred, eqb, take}
-use Rattle.std.proofs.Math.Option.{Option, none, some}
+use Rattle.std.specs.Prelude.{◌≡◌, refl, Bool, true, ◌&&◌, List, [], ◌∷◌, ◌++◌, ℕ, zero, suc, pred, eqb, take, Option, None, Some}
 use Rattle.std.proofs.Common.{eqb-true}
 use Rattle.labeling.specs.Points.{before, insert, outside_below, outside, next_margin, placed_from, placed, among}
 use Rattle.labeling.specs.Conflicts.{conflict_b, every, apart_b, within_b, valid_b}
@@ -135,7 +134,7 @@ pub record NoChoice (s : List ℕ) (r : Option (List ℕ)) (room : ℕ) : Type 0
   pub output-first : making_no s r (pred room) (pred workspace_cells) ≡ 21
   pub workspace-first : (making_no s r room (pred workspace_cells) ≡ 22) × (load_no s r (pred workspace_cells) ≡ 22)
 
-pub crowded-61 : NoChoice crowded none 36 × NoChoice crowded_four none 44 × NoChoice crowded (some (3 ∷ 1 ∷ 9 ∷ 5 ∷ [])) 36
+pub crowded-61 : NoChoice crowded None 36 × NoChoice crowded_four None 44 × NoChoice crowded (Some (3 ∷ 1 ∷ 9 ∷ 5 ∷ [])) 36
 unfolding two_bytes every unlike_earlier point_no points_no questions_no sheet_no rank_in rank_count_right ranks_allowed ranks_no
     room_no asked_no choosing_no making_no load_asked_no load_no conflict_b apart_b within_b valid_b weight_below weight put best_from best
 crowded-61 = (
@@ -147,8 +146,8 @@ crowded-61 = (
 -- so no choice of theirs is valid
 pub crowded-none : (Feasible (points_of crowded) → ⊥) × (Feasible (points_of crowded_four) → ⊥)
 crowded-none = (
-  ((making-61 crowded none 36 workspace_cells).0 crowded-61.0.making).1,
-  ((making-61 crowded_four none 44 workspace_cells).0 crowded-61.1.making).1,
+  ((making-61 crowded None 36 workspace_cells).0 crowded-61.0.making).1,
+  ((making-61 crowded_four None 44 workspace_cells).0 crowded-61.1.making).1,
 )
 
 -- A WRONG RANK LIST
@@ -156,11 +155,11 @@ crowded-none = (
 -- The list r has the number k, 62 or 63: "both after 22 and before 61" (document 02 (e)), here too where no choice is valid; and after the
 -- sheet's own questions, here of bytes that are cut short.
 pub record WrongRanks (r : List ℕ) (k : ℕ) : Type 0 where
-  pub making : making_no crowded (some r) 36 workspace_cells ≡ k
-  pub loading : load_no crowded (some r) workspace_cells ≡ k
-  pub output-first : making_no crowded (some r) 35 workspace_cells ≡ 21
-  pub workspace-first : (making_no crowded (some r) 36 (pred workspace_cells) ≡ 22) × (load_no crowded (some r) (pred workspace_cells) ≡ 22)
-  pub sheet-first : (making_no (take 9 crowded) (some r) 36 workspace_cells ≡ 11) × (load_no (take 9 crowded) (some r) workspace_cells ≡ 11)
+  pub making : making_no crowded (Some r) 36 workspace_cells ≡ k
+  pub loading : load_no crowded (Some r) workspace_cells ≡ k
+  pub output-first : making_no crowded (Some r) 35 workspace_cells ≡ 21
+  pub workspace-first : (making_no crowded (Some r) 36 (pred workspace_cells) ≡ 22) × (load_no crowded (Some r) (pred workspace_cells) ≡ 22)
+  pub sheet-first : (making_no (take 9 crowded) (Some r) 36 workspace_cells ≡ 11) × (load_no (take 9 crowded) (Some r) workspace_cells ≡ 11)
 
 -- no byte at all; a count byte that isn't n; a byte too few; the rank 0; the rank 10
 pub ranks-first : WrongRanks [] 62 × WrongRanks (2 ∷ 1 ∷ 9 ∷ 5 ∷ []) 62 × WrongRanks (3 ∷ 1 ∷ 9 ∷ []) 62

@@ -1,8 +1,7 @@
 -- Document 01's cases P1 to P10, and of document 02 labels at the map's edges (a), stacked outer labels (b), shared rows (c), ties (d) and
 -- ranks (e), from the sheet's bytes: the table, and what a case says, in the words of labeling (valid over pixels) and of format's
 -- Plate.antt (the plate of a choice, the best plate). proofs/Cases.antt has the table's theorem. Assumes nothing.
-use Rattle.std.specs.Prelude.{◌≡◌, List, [], ◌∷◌, ◌++◌, ℕ}
-use Rattle.std.proofs.Math.Option.{Option, none, some}
+use Rattle.std.specs.Prelude.{◌≡◌, List, [], ◌∷◌, ◌++◌, ℕ, Option, None, Some}
 use Rattle.labeling.specs.Marks.{Valid}
 use Rattle.format.specs.RankList.{ranks_no}
 use Rattle.format.specs.Sheet.{point_count, points_of, sheet_no}
@@ -22,7 +21,7 @@ pub data Expected : Type 0 where
 
 -- made without a list
 abbrev pub made : Expected
-made = made_with none
+made = made_with None
 
 -- A sheet, the positions of a choice, what is to hold of that choice, and the bytes that its plate adds to the sheet's.
 pub record Case : Type 0 where
@@ -263,39 +262,39 @@ cases =
     record {
       sheet = sheet 4 2 2 (at 1 4 3 (at 2 3 4 []));
       inside = 1 ∷ [];
-      expected = made_with (some (2 ∷ 1 ∷ 2 ∷ []));
+      expected = made_with (Some (2 ∷ 1 ∷ 2 ∷ []));
       added = 1 ∷ 1 ∷ 1 ∷ 0 ∷ 0 ∷ [];
     } ∷
     -- P10 with its list, the count byte alone
-    record { sheet = sheet 4 2 0 []; inside = []; expected = made_with (some (0 ∷ [])); added = 0 ∷ 0 ∷ [] } ∷
+    record { sheet = sheet 4 2 0 []; inside = []; expected = made_with (Some (0 ∷ [])); added = 0 ∷ 0 ∷ [] } ∷
     -- two of three without a list;
     record { sheet = one_or_two; inside = 0 ∷ 2 ∷ []; expected = made; added = 2 ∷ 0 ∷ 2 ∷ 1 ∷ 1 ∷ 0 ∷ [] } ∷
     -- a rank 9 beats two of 1;
     record {
       sheet = one_or_two;
       inside = 1 ∷ [];
-      expected = made_with (some (3 ∷ 1 ∷ 9 ∷ 1 ∷ []));
+      expected = made_with (Some (3 ∷ 1 ∷ 9 ∷ 1 ∷ []));
       added = 1 ∷ 1 ∷ 2 ∷ 2 ∷ 0 ∷ 0 ∷ 1 ∷ [];
     } ∷
     -- 3 and 2 beat 4: the sum decides, not the greatest rank;
     record {
       sheet = one_or_two;
       inside = 0 ∷ 2 ∷ [];
-      expected = made_with (some (3 ∷ 3 ∷ 4 ∷ 2 ∷ []));
+      expected = made_with (Some (3 ∷ 3 ∷ 4 ∷ 2 ∷ []));
       added = 2 ∷ 0 ∷ 2 ∷ 1 ∷ 1 ∷ 0 ∷ [];
     } ∷
     -- equal sums, 1 and 1 against 2: "ties as in the preceding request", the one with the first point inside;
     record {
       sheet = one_or_two;
       inside = 0 ∷ 2 ∷ [];
-      expected = made_with (some (3 ∷ 1 ∷ 2 ∷ 1 ∷ []));
+      expected = made_with (Some (3 ∷ 1 ∷ 2 ∷ 1 ∷ []));
       added = 2 ∷ 0 ∷ 2 ∷ 1 ∷ 1 ∷ 0 ∷ [];
     } ∷
     -- and so too where that has fewer inside
     record {
       sheet = two_or_one;
       inside = 0 ∷ [];
-      expected = made_with (some (3 ∷ 2 ∷ 1 ∷ 1 ∷ []));
+      expected = made_with (Some (3 ∷ 2 ∷ 1 ∷ 1 ∷ []));
       added = 1 ∷ 0 ∷ 2 ∷ 2 ∷ 0 ∷ 1 ∷ 1 ∷ [];
     } ∷ []
 

@@ -1,7 +1,7 @@
 -- For each case of read_plate's answer, document 01's number and values. Assumes nothing.
-use Rattle.std.specs.Prelude.{Bool, true, false, cond, not, List, ℕ, eqb}
-use Rattle.plate_reader.specs.declared.PlateAnswer.{PlateAnswer}
-use Rattle.plate_reader.specs.declared.PlateAnswer.TheVariants.{Accepted, Refused}
+use Rattle.std.specs.Prelude.{Bool, true, false, cond, not, List, ℕ, eqb, Result, Ok, Err}
+use Rattle.format.specs.declared.refusal.Refusal.{Refusal}
+use Rattle.format.specs.Answers.{number}
 use Rattle.plate_reader.specs.PlateQuestions.{inside_count, plate_no}
 
 -- What an answer says: whether the plate is refused, the number of the first no (0 where nothing is refused), and the inside count (0
@@ -20,6 +20,6 @@ plate_outcome_of p = record {
 }
 
 -- The cases of read_plate's answer.
-abbrev pub plate_outcome : PlateAnswer → PlateOutcome
-plate_outcome (Accepted i) = record { refused = false; no = 0; inside = i }
-plate_outcome (Refused k) = record { refused = true; no = k; inside = 0 }
+abbrev pub plate_outcome : Result ℕ Refusal → PlateOutcome
+plate_outcome (Ok i) = record { refused = false; no = 0; inside = i }
+plate_outcome (Err r) = record { refused = true; no = number r; inside = 0 }

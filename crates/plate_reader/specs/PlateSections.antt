@@ -1,12 +1,11 @@
 -- What the questions of a plate ask, as facts, and how a plate's bytes are read. proofs/PlateSections.antt has a plate's bytes from its
 -- sections, and its sections from the bytes that plate_of gives. Assumes nothing.
-use Rattle.std.specs.Prelude.{◌≡◌, true, List, ℕ, ◌+◌, ◌*◌, ◌≤◌}
+use Rattle.std.specs.Prelude.{None, ◌≡◌, true, List, ℕ, ◌+◌, ◌*◌, ◌≤◌}
 use Rattle.std.proofs.Math.ListN.{length}
 use Rattle.format.specs.Sheet.{point_count, points_of, sheet_length}
 use Rattle.format.specs.Accepted.{Proper}
 use Rattle.format.specs.Plate.{choice_of}
 use Rattle.format.specs.Ascending.{ascending}
-use Rattle.clash.specs.declared.Clash.TheVariants.{None}
 use Rattle.clash.specs.FirstClash.{first_clash}
 use Rattle.plate_reader.specs.PlateQuestions.{sheet_of, inside_count, inside_list, outside_start}
 use Rattle.plate_reader.specs.PlateQuestions.{outside_count, outside_pairs, pairs_right}

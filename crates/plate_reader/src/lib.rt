@@ -1,10 +1,11 @@
 // A plate read.
 #![tactic(auto)]
 
-ghost use Rattle.std.specs.Prelude.{◌≡◌, ◌+◌, ◌≤◌, ◌<◌, min, length, get_or, take, drop};
+ghost use Rattle.std.specs.Prelude.{◌≡◌, ◌+◌, ◌≤◌, ◌<◌, min, length, take, drop};
 ghost use Rattle.labeling.specs.Points.{before};
 ghost use Rattle.format.specs.Sheet.{points_of, plate_sheet_no, sheet_length};
-ghost use Rattle.format.specs.Ascending.{below_next, ascending};
+ghost use Rattle.format.specs.Ascending.{ascending};
+ghost use Rattle.format.specs.Answers.{no_of};
 ghost use Rattle.clash.specs.ChoiceFlags.{held};
 ghost use Rattle.plate_reader.specs.PlateQuestions.{sheet_of, inside_count, inside_start, inside_list, outside_start, outside_pairs};
 ghost use Rattle.plate_reader.specs.PlateQuestions.{sections_fit, sections_no, plate_no, handed_back, handed_back_at};
@@ -12,16 +13,9 @@ ghost use Rattle.plate_reader.specs.Stretch.{Stretch};
 ghost use Rattle.plate_reader.specs.OutsideWalk.{outside_point, pair_follows, pairs_after, pairs_follow};
 ghost use Rattle.plate_reader.specs.PlateAnswers.{plate_outcome, plate_outcome_of};
 
-use clash::{choice_of, first_clash, is_clash};
-use format::{byte_at, column, next_margin, point_count, row, sheet_length};
+use clash::{SheetChoice, choice_of, first_clash};
+use format::{Refusal, byte_at, column, next_margin, point_count, row, sheet_length};
 use sheet_reader::questions_no;
-
-// What read_plate answers: the plate is accepted, with its inside count, or refused with the number of its first no.
-#[derive(Clone, Copy)]
-pub enum PlateAnswer {
-    Accepted(u8),
-    Refused(u8),
-}
 
 // The count of a plate's inside list.
 pub fn inside_count(plate: &[u8]) -> u8
@@ -34,7 +28,7 @@ pub fn inside_count(plate: &[u8]) -> u8
 fn outside_start(plate: &[u8]) -> usize
     ensures { (result ≡ outside_start plate.now) × (result < 3000) }
 {
-    sheet_length(plate) + 1 + inside_count(plate) as usize
+    sheet_length(plate) + 1 + usize::from(inside_count(plate))
 }
 
 // The sections have all their bytes, end where the plate ends, and hold n points together.
@@ -42,13 +36,10 @@ fn outside_start(plate: &[u8]) -> usize
 fn sections_fit(plate: &[u8]) -> bool
     ensures { result ≡ sections_fit plate.now }
 {
-    let inside = inside_count(plate) as usize;
+    let inside = usize::from(inside_count(plate));
     let at = outside_start(plate);
-    let outside = byte_at(plate, at) as usize;
-    if plate.len() != at + 1 + 2 * outside {
-        return false;
-    }
-    inside + outside == point_count(plate) as usize
+    let outside = usize::from(byte_at(plate, at));
+    plate.len() == at + 1 + 2 * outside && inside + outside == usize::from(point_count(plate))
 }
 
 // The sheet's bytes.
@@ -57,29 +48,21 @@ fn sheet_of(plate: &[u8]) -> &[u8]
     requires { sheet_length plate.now ≤ length plate.now }
     ensures { result.now ≡ sheet_of plate.now }
 {
-    let end = sheet_length(plate);
-    &plate[0..end]
+    &plate[..sheet_length(plate)]
 }
 
 // The bytes from a place on; of bytes that end before it, their empty end.
 fn bytes_after(bytes: &[u8], start: usize) -> &[u8]
     ensures { Stretch result bytes.entry (min start (length bytes.now)) (drop start bytes.now) }
 {
-    let end = bytes.len();
-    if end < start {
-        return &bytes[end..];
-    }
-    &bytes[start..]
+    &bytes[start.min(bytes.len())..]
 }
 
 // The first bytes, as many of them as there are.
 fn first_bytes(bytes: &[u8], count: usize) -> &[u8]
     ensures { Stretch result bytes.entry 0 (take count bytes.now) }
 {
-    if bytes.len() < count {
-        return bytes;
-    }
-    &bytes[0..count]
+    &bytes[..count.min(bytes.len())]
 }
 
 // The position bytes of the inside section, as far as they are there, of any bytes read as a plate.
@@ -89,7 +72,7 @@ pub fn inside_positions(plate: &[u8]) -> &[u8]
         (inside_list plate.now) }
 {
     let rest = bytes_after(plate, sheet_length(plate) + 1);
-    first_bytes(rest, inside_count(plate) as usize)
+    first_bytes(rest, usize::from(inside_count(plate)))
 }
 
 // The bytes after the outside count, of any bytes read as a plate.
@@ -101,44 +84,18 @@ pub fn outside_pairs(plate: &[u8]) -> &[u8]
     bytes_after(plate, outside_start(plate) + 1)
 }
 
-// The position at k is below the next, where there is one.
-fn below_next(list: &[u8], k: usize) -> bool
-    requires { k < length list.now }
-    ensures { result ≡ below_next (get_or list.now k 0) (drop (k + 1) list.now) }
-{
-    let next = k + 1;
-    if next < list.len() {
-        return list[k] < list[next];
-    }
-    true
-}
-
 // Each position is below n and above the one before it.
-#[tactic(auto, unfolding(format::specs::Ascending::ascending))]
 fn ascends(list: &[u8], n: u8) -> bool
     ensures { result ≡ ascending n list.now }
 {
-    let mut k = 0;
-    while k < list.len() {
-        if n <= list[k] {
-            return false;
-        }
-        if !below_next(list, k) {
-            return false;
-        }
-        k += 1;
-    }
-    true
+    list.iter().all(|position| *position < n) && list.is_sorted_by(|a, b| a < b)
 }
 
 // A position is an outside point.
-fn outside_point(sheet: &[u8], inside: &[bool; 256], position: u8) -> bool
-    ensures { result ≡ outside_point (points_of sheet.now) (held inside.now) position }
+fn outside_point(choice: &SheetChoice, position: u8) -> bool
+    ensures { result ≡ outside_point (points_of choice.now.sheet.now) (held choice.now.inside) position }
 {
-    if position < point_count(sheet) {
-        return !inside[position as usize];
-    }
-    false
+    position < point_count(choice.sheet) && !choice.inside[usize::from(position)]
 }
 
 // Position i stands before position j: from the highest row down, of one row the smaller column first.
@@ -148,124 +105,112 @@ fn stands_before(sheet: &[u8], i: u8, j: u8) -> bool
 {
     let upper = row(sheet, i);
     let lower = row(sheet, j);
-    if lower < upper {
-        return true;
-    }
-    if lower == upper {
-        return column(sheet, i) < column(sheet, j);
-    }
-    false
+    lower < upper || lower == upper && column(sheet, i) < column(sheet, j)
+}
+
+// A pair of a plate's outside section: a position and its margin column.
+#[derive(Clone, Copy)]
+struct Pair {
+    position: u8,
+    margin: u8,
 }
 
 // A pair may follow another.
-fn pair_follows(
-    sheet: &[u8],
-    inside: &[bool; 256],
-    previous: u8,
-    margin: u8,
-    position: u8,
-    own: u8,
-) -> bool
-    ensures { result ≡ pair_follows (points_of sheet.now) (held inside.now) previous margin position own }
+fn pair_follows(choice: &SheetChoice, previous: Pair, next: Pair) -> bool
+    ensures { result ≡ pair_follows (points_of choice.now.sheet.now) (held choice.now.inside)
+        previous.position previous.margin next.position next.margin }
 {
-    if !outside_point(sheet, inside, position) {
-        return false;
-    }
-    if !stands_before(sheet, previous, position) {
-        return false;
-    }
-    let ruled = next_margin(sheet, previous, margin, position);
-    own as u16 == ruled
+    let sheet = choice.sheet;
+    outside_point(choice, next.position)
+        && stands_before(sheet, previous.position, next.position)
+        && u16::from(next.margin)
+            == next_margin(sheet, previous.position, previous.margin, next.position)
 }
 
 // Each of the pairs follows the one before it, the first that of the arguments.
 #[tactic(auto, unfolding(crate::specs::OutsideWalk::pairs_after))]
-fn pairs_after(sheet: &[u8], inside: &[bool; 256], position: u8, margin: u8, pairs: &[u8]) -> bool
-    ensures { result ≡ pairs_after (points_of sheet.now) (held inside.now) position margin pairs.now }
+fn pairs_after(choice: &SheetChoice, first: Pair, pairs: &[u8]) -> bool
+    ensures { result ≡ pairs_after (points_of choice.now.sheet.now) (held choice.now.inside)
+        first.position first.margin pairs.now }
 {
-    let mut last = position;
-    let mut last_margin = margin;
-    let mut at = 0;
-    while at + 1 < pairs.len() {
-        let next = pairs[at];
-        let next_column = pairs[at + 1];
-        if !pair_follows(sheet, inside, last, last_margin, next, next_column) {
+    let mut last = first;
+    let mut rest = pairs;
+    while let [position, margin, others @ ..] = rest {
+        let next = Pair {
+            position: *position,
+            margin: *margin,
+        };
+        if !pair_follows(choice, last, next) {
             return false;
         }
         last = next;
-        last_margin = next_column;
-        at += 2;
+        rest = others;
     }
-    at == pairs.len()
+    rest.is_empty()
 }
 
 // Each of the pairs is an outside point that follows the one before it, and the first has margin column 0.
 #[tactic(auto, unfolding(crate::specs::OutsideWalk::pairs_follow))]
-fn pairs_follow(sheet: &[u8], inside: &[bool; 256], pairs: &[u8]) -> bool
-    ensures { result ≡ pairs_follow (points_of sheet.now) (held inside.now) pairs.now }
+fn pairs_follow(choice: &SheetChoice, pairs: &[u8]) -> bool
+    ensures { result ≡ pairs_follow (points_of choice.now.sheet.now) (held choice.now.inside) pairs.now }
 {
-    if pairs.len() == 0 {
-        return true;
+    match pairs {
+        [] => true,
+        [_] => false,
+        [position, margin, others @ ..] => {
+            let first = Pair {
+                position: *position,
+                margin: *margin,
+            };
+            outside_point(choice, first.position)
+                && first.margin == 0
+                && pairs_after(choice, first, others)
+        }
     }
-    if pairs.len() == 1 {
-        return false;
-    }
-    let first = pairs[0];
-    let margin = pairs[1];
-    if !outside_point(sheet, inside, first) {
-        return false;
-    }
-    if margin != 0 {
-        return false;
-    }
-    pairs_after(sheet, inside, first, margin, &pairs[2..])
 }
 
-// The first no of 41 to 44, 0 for none, of a plate whose sheet has none.
+// The first no of 41 to 44 of a plate whose sheet has none.
 #[tactic(auto, unfolding(crate::specs::PlateQuestions::sections_no))]
-fn sections_no(plate: &[u8]) -> u8
+fn sections_no(plate: &[u8]) -> Result<(), Refusal>
     requires { plate_sheet_no plate.now ≡ 0 }
-    ensures { result ≡ sections_no plate.now }
+    ensures { no_of result ≡ sections_no plate.now }
 {
     if !sections_fit(plate) {
-        return 41;
+        return Err(Refusal::PlateSections);
     }
     let list = inside_positions(plate);
     if !ascends(list, point_count(plate)) {
-        return 42;
+        return Err(Refusal::InsideOrder);
     }
     let sheet = sheet_of(plate);
-    let inside = choice_of(list);
-    if !pairs_follow(sheet, &inside, outside_pairs(plate)) {
-        return 43;
+    let choice = SheetChoice {
+        sheet,
+        inside: choice_of(list),
+    };
+    if !pairs_follow(&choice, outside_pairs(plate)) {
+        return Err(Refusal::OutsidePairs);
     }
-    if is_clash(first_clash(sheet, list)) {
-        return 44;
+    if first_clash(sheet, list).is_some() {
+        return Err(Refusal::PlateClash);
     }
-    0
+    Ok(())
 }
 
-// The first no of a plate, 0 for none.
+// The first no of a plate.
 #[tactic(auto, unfolding(crate::specs::PlateQuestions::plate_no, format::specs::Sheet::plate_sheet_no))]
-fn plate_no(plate: &[u8]) -> u8
-    ensures { result ≡ plate_no plate.now }
+fn plate_no(plate: &[u8]) -> Result<(), Refusal>
+    ensures { no_of result ≡ plate_no plate.now }
 {
-    let no = questions_no(plate, sheet_length(plate) <= plate.len());
-    if no != 0 {
-        return no;
-    }
+    questions_no(plate, sheet_length(plate) <= plate.len())?;
     sections_no(plate)
 }
 
-// The plate's questions: the sheet's, then 41 to 44, in their order.
-pub fn read_plate(plate: &[u8]) -> PlateAnswer
+// The plate's questions: the sheet's, then 41 to 44, in their order. An accepted plate answers with its inside count.
+pub fn read_plate(plate: &[u8]) -> Result<u8, Refusal>
     ensures { plate_outcome result ≡ plate_outcome_of plate.now }
 {
-    let no = plate_no(plate);
-    if no == 0 {
-        return PlateAnswer::Accepted(inside_count(plate));
-    }
-    PlateAnswer::Refused(no)
+    plate_no(plate)?;
+    Ok(inside_count(plate))
 }
 
 // The inside list of an accepted plate, as that part of the plate: the position bytes without their count byte. Of a refused plate its
@@ -274,8 +219,8 @@ pub fn read_plate(plate: &[u8]) -> PlateAnswer
 pub fn inside_list(plate: &[u8]) -> &[u8]
     ensures { Stretch result plate.entry (handed_back_at plate.now) (handed_back plate.now) }
 {
-    if plate_no(plate) != 0 {
-        return &plate[0..0];
+    match plate_no(plate) {
+        Ok(()) => inside_positions(plate),
+        Err(_) => &plate[..0],
     }
-    inside_positions(plate)
 }
