@@ -1,6 +1,5 @@
 -- An accepted sheet and a right rank list, or none, fit the array. Assumes nothing.
-use Rattle.std.specs.Prelude.{◌≡◌, List, ℕ}
-use Rattle.std.proofs.Math.Option.{Option}
+use Rattle.std.specs.Prelude.{◌≡◌, List, ℕ, Option}
 use Rattle.std.proofs.Common.{arith}
 use Rattle.format.specs.Sheet.{sheet_no, point_count}
 use Rattle.format.specs.RankList.{rank_in, ranks_no}

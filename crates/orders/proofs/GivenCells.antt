@@ -1,7 +1,6 @@
 -- The theorems on the definitions of specs/GivenCells.antt. Assumes nothing.
 use Rattle.std.specs.Prelude.{◌≡◌, refl, List, ℕ, suc, ◌+◌, ◌*◌, ◌≤◌, ◌<◌, length, get_or, set}
-use Rattle.std.proofs.Common.{sym, ◌∙◌, length-set, get_or-set_same, get_or-set_other}
-use native.Mathlib.Omega.{arith}
+use Rattle.std.proofs.Common.{sym, ◌∙◌, arith, length-set, get_or-set_same, get_or-set_other}
 use Rattle.labeling.proofs.Decide.{same}
 use Rattle.orders.specs.Layout.{field_cells, weight_field, array_cells, first_weight, first_allowed, first_position}
 use Rattle.orders.specs.Words.{value_at, with_value, FourSmall}

@@ -1,6 +1,7 @@
 -- The theorems on the definitions of specs/Given.antt. Assumes nothing.
 use Rattle.std.specs.Prelude.{◌≡◌, refl, Bool, true, false, List, ℕ, ◌+◌, ◌*◌, ◌≤◌, eqb}
 use Rattle.std.proofs.Common.{arith}
+use Rattle.std.specs.Int.{from_bool}
 use Rattle.labeling.proofs.Tests.{dec-label-on-map}
 use Rattle.recurrence.specs.TieBreak.{tie_break, tie_broken}
 use Rattle.recurrence.proofs.TieBreak.{tie-pos, tie-most}
@@ -35,6 +36,11 @@ permits sheet = record {
   needed = λ S f p l e. (dec-label-on-map (points_of sheet) p).of (f.within p l e);
   enough = λ p l e. (dec-label-on-map (points_of sheet) p).is e;
 }
+
+-- A permission is the test as a number.
+pub permission_is : (b : Bool) → from_bool b ≡ permission b
+permission_is true = refl
+permission_is false = refl
 
 pub permission-read : (b : Bool) → eqb (permission b) 1 ≡ b
 permission-read true = refl

@@ -1,6 +1,7 @@
 -- The theorems on the definitions of specs/Words.antt. Assumes nothing.
-use Rattle.std.specs.Prelude.{◌≡◌, List, ◌≢◌, ℕ, ◌+◌, ◌*◌, ◌/◌, ◌%◌, ◌≤◌, ◌<◌, length, get_or, set}
-use Rattle.std.proofs.Common.{arith, length-set, get_or-set_same, get_or-set_other}
+use Rattle.std.specs.Prelude.{◌≡◌, refl, List, [], ◌∷◌, ◌≢◌, ℕ, zero, suc, ◌+◌, ◌*◌, ◌/◌, ◌%◌, ◌≤◌, ◌<◌, length, get_or, set}
+use borrow.Rule.Slice.PartMut.{put_mid}
+use Rattle.std.proofs.Common.{ap, arith, length-set, get_or-set_same, get_or-set_other}
 use Rattle.labeling.proofs.Decide.{same}
 use Rattle.orders.specs.Words.{value_at, with_value, four, FourSmall}
 
@@ -31,6 +32,24 @@ module _ (t : List ℕ) (k a b c d : ℕ) where
         simp (get_or-set_other, get_or-set_same),
         simp (get_or-set_same),
       )
+
+-- Four cells copied to the front, and from k on.
+front : (t : List ℕ) (a b c d : ℕ) → 3 < length t → put_mid 0 4 t (a ∷ b ∷ c ∷ d ∷ []) ≡ set (set (set (set t 0 a) 1 b) 2 c) 3 d
+front [] a b c d h = absurd (omega arith)
+front (p ∷ []) a b c d h = absurd (omega arith)
+front (p ∷ q ∷ []) a b c d h = absurd (omega arith)
+front (p ∷ q ∷ r ∷ []) a b c d h = absurd (omega arith)
+front (p ∷ q ∷ r ∷ s ∷ t) a b c d h = refl
+
+copied : (t : List ℕ) (k l m n a b c d : ℕ) → k + 3 < length t → l ≡ k + 1 → m ≡ k + 2 → n ≡ k + 3
+    → put_mid k 4 t (a ∷ b ∷ c ∷ d ∷ []) ≡ set (set (set (set t k a) l b) m c) n d
+copied [] k l m n a b c d h e f g = absurd (omega arith)
+copied (p ∷ t) zero l m n a b c d h e f g = rw (e, f, g) (front (p ∷ t) a b c d (omega arith))
+copied (p ∷ t) (suc k) zero m n a b c d h e f g = absurd (omega arith)
+copied (p ∷ t) (suc k) (suc l) zero n a b c d h e f g = absurd (omega arith)
+copied (p ∷ t) (suc k) (suc l) (suc m) zero a b c d h e f g = absurd (omega arith)
+copied (p ∷ t) (suc k) (suc l) (suc m) (suc n) a b c d h e f g =
+    ap (λ x. p ∷ x) (copied t k l m n a b c d (omega arith) (omega arith) (omega arith) (omega arith))
 
 -- What was stored is read back.
 pub value-with : (t : List ℕ) (i x : ℕ) → i * 4 + 3 < length t → value_at (with_value t i x) i ≡ x

@@ -1,16 +1,17 @@
 // The points of a sheet in both orders, with their weights, in the array that the best choice is made from.
 #![tactic(auto)]
 
-ghost use Rattle.std.specs.Prelude.{◌≡◌};
+ghost use Rattle.std.specs.Prelude.{◌≡◌, option_copied};
 ghost use Rattle.format.specs.Sheet.{sheet_no, point_count};
-ghost use Rattle.format.specs.RankList.{rank_in, ranks_no, lent};
+ghost use Rattle.format.specs.RankList.{rank_in, ranks_no};
 ghost use Rattle.orders.specs.BothOrders.{BothOrders};
 ghost use Rattle.orders.specs.Ordering.{Ordering};
 
 use crate::layout::ARRAY_CELLS;
+use format::Refusal;
 use height_order::write_points;
 use making_questions::asked_no;
-use numbers::{blank, write_numbers};
+use numbers::write_numbers;
 use right_order::write_right_order;
 
 mod given;
@@ -19,26 +20,22 @@ pub mod layout;
 mod numbers;
 mod ranks;
 mod right_order;
+pub mod word;
 
-// The array of the points, field after field. specs/Arrays.antt has its layout.
+// The array of the points, field after field: specs/Layout.antt says where each starts. One array for all fields ran fastest
+// (docs/DECISIONS.md, 17).
 pub type PointArray = [u16; ARRAY_CELLS];
 
-// The points in both orders, or why there are none: the number of the first no, 0 for none.
-#[derive(Clone, Copy)]
-pub struct OrderedPoints {
-    pub no: u8,
-    pub heights: [u16; ARRAY_CELLS],
-}
-
 // The array of an accepted sheet and a right rank list, or none.
-fn both_orders(sheet: &[u8], ranked: bool, ranks: &[u8]) -> PointArray
-    requires { (sheet_no sheet.now ≡ 0) × (ranks_no (point_count sheet.now) (lent ranked ranks.now) ≡ 0) }
-    ensures { BothOrders (rank_in (lent ranked ranks.now)) sheet.now result }
+#[tactic(auto, unfolding(crate::specs::Numbers::blank_of))]
+fn both_orders(sheet: &[u8], ranks: Option<&[u8]>) -> PointArray
+    requires { (sheet_no sheet.now ≡ 0) × (ranks_no (point_count sheet.now) (option_copied ranks) ≡ 0) }
+    ensures { BothOrders (rank_in (option_copied ranks.entry)) sheet.now result }
 {
-    let mut heights = blank();
+    let mut heights = [0; ARRAY_CELLS];
     write_numbers(sheet, &mut heights);
-    write_points(sheet, ranked, ranks, &mut heights);
-    write_right_order(format::point_count(sheet) as usize, &mut heights);
+    write_points(sheet, ranks, &mut heights);
+    write_right_order(usize::from(format::point_count(sheet)), &mut heights);
     heights
 }
 
@@ -46,22 +43,12 @@ fn both_orders(sheet: &[u8], ranked: bool, ranks: &[u8]) -> PointArray
 // points of the sheet in both orders, where none is answered no.
 pub fn ordered_points(
     sheet: &[u8],
-    ranked: bool,
-    ranks: &[u8],
+    ranks: Option<&[u8]>,
     fits: bool,
     cells: usize,
-) -> OrderedPoints
-    ensures { Ordering sheet.now (lent ranked ranks.now) fits cells result }
+) -> Result<PointArray, Refusal>
+    ensures { Ordering sheet.now (option_copied ranks.entry) fits cells result }
 {
-    let no = asked_no(sheet, ranked, ranks, fits, cells);
-    if no != 0 {
-        return OrderedPoints {
-            no,
-            heights: blank(),
-        };
-    }
-    OrderedPoints {
-        no: 0,
-        heights: both_orders(sheet, ranked, ranks),
-    }
+    asked_no(sheet, ranks, fits, cells)?;
+    Ok(both_orders(sheet, ranks))
 }

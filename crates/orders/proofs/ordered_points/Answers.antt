@@ -1,5 +1,5 @@
 -- `orders::ordered_points` meets its contract. Assumes nothing.
-use mathlib.Core.Path.{sym, ◌∙◌}
+use Rattle.std.proofs.Common.{sym}
 use Rattle.format.proofs.Accepted.{none-sheet}
 use Rattle.format.proofs.RightRanks.{none-ranks}
 use Rattle.format.proofs.MakingQuestions.{none-asked}
@@ -7,5 +7,5 @@ use Rattle.orders.proofs.ordered_points.Goals as goal
 
 pub both_orders-requires : goal.both_orders-requires
 both_orders-requires c =
-    let a = (none-asked _ _ _ _).is (sym c.asked_no-no.ensures ∙ c.if-no-ne0.false) in
+    let a = (none-asked _ _ _ _).is (sym c.in_ok-asked_no.ensures) in
     ((none-sheet _).of a.0.0, (none-ranks _ _).of a.1)

@@ -1,5 +1,5 @@
 -- `orders::given::tie_break` meets its contract. Assumes nothing.
-use native.Mathlib.Omega.{arith}
+use Rattle.std.proofs.Common.{arith}
 use Rattle.recurrence.proofs.TieBreak.{tie-shifted, tie-most}
 use Rattle.orders.proofs.given.tie_break.Goals as goal
 

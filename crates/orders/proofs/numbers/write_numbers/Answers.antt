@@ -1,5 +1,5 @@
 -- `orders::numbers::write_numbers` meets its contract: each call leaves the cells of the others as they are. Assumes nothing.
-use mathlib.Core.Path.{◌≡◌, ◌∙◌, ap}
+use Rattle.std.proofs.Common.{◌≡◌, ◌∙◌, ap}
 use Rattle.orders.specs.Numbers.{blank_of, counted}
 use Rattle.orders.proofs.NumbersLaws.{numbers-made}
 use Rattle.orders.proofs.numbers.write_numbers.Goals as goal
