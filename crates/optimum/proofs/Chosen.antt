@@ -1,9 +1,8 @@
 -- The recovered choice is the best choice of the sheet, and its two lists are those that are written; and where the value is 0, no choice
 -- is valid. Assumes nothing.
-use Rattle.std.specs.Prelude.{◌≡◌, ℕ, suc, ◌≤◌, Bool, true, false, cond, List, length, replicate, ◌==◌, ◌≢◌, nat_eq, refl}
+use Rattle.std.specs.Prelude.{◌≡◌, ℕ, suc, ◌≤◌, Bool, true, false, cond, List, length, replicate, ◌≢◌, refl, Option, Result, Ok, Err}
 use Rattle.std.proofs.Math.Path.{ap, sym}
-use Rattle.std.proofs.Common.{◌∙◌, ne_eqb, arith}
-use Rattle.std.proofs.Math.Option.{Option}
+use Rattle.std.proofs.Common.{◌∙◌, arith}
 use Rattle.std.proofs.lemmas.List.{length-replicate, get_or-replicate}
 use Rattle.labeling.specs.Points.{outside}
 use Rattle.labeling.proofs.Pixels.{one-outside-a-row}
@@ -21,7 +20,10 @@ use Rattle.format.specs.Plate.{inside_below}
 use Rattle.format.specs.RankList.{rank_in}
 use Rattle.format.proofs.PlateAgree.{inside-agree}
 use Rattle.format.proofs.BestPlate.{preferred-agrees}
-use Rattle.format.specs.Padded.{padded}
+use Rattle.format.specs.Answers.{number}
+use Rattle.format.specs.declared.refusal.Refusal.{Refusal}
+use Rattle.format.specs.declared.refusal.Refusal.TheVariants.{NoValidChoice}
+use Rattle.format.proofs.Answers.{number-not-none, answered-by}
 use Rattle.format.specs.Accepted.{Accepted}
 use Rattle.format.proofs.Asking.{then-later, then-first}
 use Rattle.format.specs.MakingQuestions.{asked_no, choice_no, choosing_no, workspace_after}
@@ -35,21 +37,21 @@ use Rattle.optimum.specs.Table.{inside_flag, Blank, Solved}
 use Rattle.optimum.specs.Prepared.{Prepared}
 use Rattle.optimum.specs.Split.{flagged, outside_down, outside_positions}
 use Rattle.optimum.proofs.Outside.{down-outside-points}
-use Rattle.optimum.specs.Choosing.{split_of, nothing_chosen, chosen_of, Choosing}
+use Rattle.optimum.specs.Choosing.{listed, split_of, chosen_of, Choosing}
 use Rattle.optimum.specs.declared.BestChoice.{BestChoice}
 use Rattle.optimum.specs.Chosen.{ByPosition, TwoLists}
 
 -- no flag is set
-pub none-blank : Blank (replicate field_cells 0)
-none-blank = record { long = length-replicate {A = ℕ} field_cells 0; zero = λ i l. get_or-replicate {A = ℕ} field_cells i 0 0 l }
+pub none-blank : Blank (replicate field_cells false)
+none-blank = record { long = length-replicate {A = Bool} field_cells false; zero = λ i l. get_or-replicate {A = Bool} field_cells i false false l }
 
--- a flag is 1 exactly where it was set by a true test
-flag_is : (b : Bool) → (cond b inside_flag 0 == 1) ≡ b
+-- a flag is true exactly where it was set by a true test
+flag_is : (b : Bool) → cond b inside_flag false ≡ b
 flag_is true = refl
 flag_is false = refl
 
 -- The value is 0 exactly if no choice is valid.
-module _ (rank : ℕ → ℕ) (s heights flags : List ℕ) {k : ℕ} (a : Accepted s) (p : Prepared rank s heights)
+module _ (rank : ℕ → ℕ) (s heights : List ℕ) (flags : List Bool) {k : ℕ} (a : Accepted s) (p : Prepared rank s heights)
     (solved : Solved (heights_of heights) flags k) where
   best-value : best (points_of s) (weight_of rank) ≡ k
   unfolding optimum
@@ -68,7 +70,7 @@ module _ (rank : ℕ → ℕ) (s heights flags : List ℕ) {k : ℕ} (a : Accept
       let l : 1 ≤ best (points_of s) (weight_of rank) = omega (arith, best-value) in
       sym ((none-choice s a).of (best-feasible (points_of s) (weight_of rank) a.proper.label-width.0 l, tt))
 
-module _ (rank : ℕ → ℕ) (s heights flags choice : List ℕ) {k : ℕ} (a : Accepted s) (p : Prepared rank s heights)
+module _ (rank : ℕ → ℕ) (s heights : List ℕ) (flags choice : List Bool) {k : ℕ} (a : Accepted s) (p : Prepared rank s heights)
     (solved : Solved (heights_of heights) flags k) (some : k ≡ 0 → ⊥) (by : ByPosition heights flags choice) where
   has-choice : 1 ≤ optimum (heights_of heights)
   unfolding optimum
@@ -79,7 +81,7 @@ module _ (rank : ℕ → ℕ) (s heights flags choice : List ℕ) {k : ℕ} (a :
   unfolding chosen optimum
   choice-chosen = record {
     at = λ i q.
-        ap (λ x. nat_eq x 1) (by.at i q ∙ solved.flagged (omega (arith, solved.best, has-choice)) i q)
+        by.at i q ∙ solved.flagged (omega (arith, solved.best, has-choice)) i q
         ∙ flag_is (recovered (heights_of heights) (heights_of heights).n 0 (suc (heights_of heights).n) 0 i);
   }
 
@@ -106,35 +108,31 @@ module _ (rank : ℕ → ℕ) (s heights flags choice : List ℕ) {k : ℕ} (a :
       ∙ outside-agree (points_of s) (flagged choice) (best_choice (points_of s) rank) (point_count s) agreed.at
 
   -- AND ITS LISTS ARE THE SPLIT
-  pub lists-chosen : (r : BestChoice) → TwoLists (point_count s) heights choice r → r ≡ chosen_of s rank (choice_no s)
-  lists-chosen r t = rw (← some-valid rank s heights flags a p solved some) split
+  pub lists-chosen : (r : BestChoice) → TwoLists (point_count s) heights choice r → Ok r ≡ chosen_of s rank (choice_no s)
+  lists-chosen r t = rw (← some-valid rank s heights flags a p solved some) (ap Ok split)
     where
       split : r ≡ split_of s (best_choice (points_of s) rank)
-      split = λ i. record {
-        no = t.no i;
-        inside = (t.inside ∙ ap (padded 32) listed-inside) i;
-        inside_count = (t.inside-count ∙ ap length listed-inside) i;
-        outside = (t.outside ∙ ap (padded 32) listed-outside) i;
-        outside_count = (t.outside-count ∙ ap length listed-outside) i;
-      }
+      split = λ i. record { inside = (t.inside ∙ ap listed listed-inside) i; outside = (t.outside ∙ ap listed listed-outside) i }
 
 -- nothing is chosen where no choice is valid
-pub none-chosen : (rank : ℕ → ℕ) (s : List ℕ) (r : BestChoice) → r ≡ nothing_chosen 61 → 61 ≡ choice_no s → r ≡ chosen_of s rank (choice_no s)
-none-chosen rank s r e q = rw (← q) e
+pub none-chosen : (rank : ℕ → ℕ) (s : List ℕ) → 61 ≡ choice_no s → Err NoValidChoice ≡ chosen_of s rank (choice_no s)
+none-chosen rank s q = answered-by (Err NoValidChoice) (choice_no s) _ q tt
 
 -- THE PROMISE, where a question before 61 is answered no
-pub refused-choosing : (s : List ℕ) (l : Option (List ℕ)) (fits : Bool) (w : List ℕ) (k : ℕ)
-    → k ≡ asked_no s l fits (length w) → (k ≢ 0) → Choosing s l fits w (nothing_chosen k) w
+pub refused-choosing : (s : List ℕ) (l : Option (List ℕ)) (fits : Bool) (w : List ℕ) (r : Refusal)
+    → number r ≡ asked_no s l fits (length w) → Choosing s l fits w (Err r) w
 unfolding choosing_no
-refused-choosing s l fits w k e ne =
-    let no : k ≡ choosing_no s l fits (length w) = then-first (asked_no s l fits (length w)) (choice_no s) k (λ z. ne (e ∙ z)) e in
+refused-choosing s l fits w r e =
+    let ne = number-not-none r in
+    let no : number r ≡ choosing_no s l fits (length w) =
+    then-first (asked_no s l fits (length w)) (choice_no s) (number r) (λ z. ne (e ∙ z)) e in
     record {
-      answer = rw (← no, ne_eqb k 0 ne);
-      workspace = rw (← no) (sym (untouched k w ne (λ z. asked-other s l fits (length w) (sym e ∙ z))));
+      answer = answered-by (Err r) (choosing_no s l fits (length w)) _ no tt;
+      workspace = rw (← no) (sym (untouched (number r) w ne (λ z. asked-other s l fits (length w) (sym e ∙ z))));
     }
 
 -- and where none is
-pub chosen-choosing : (s : List ℕ) (l : Option (List ℕ)) (fits : Bool) (w w' : List ℕ) (r : BestChoice)
+pub chosen-choosing : (s : List ℕ) (l : Option (List ℕ)) (fits : Bool) (w w' : List ℕ) (r : Result BestChoice Refusal)
     → asked_no s l fits (length w) ≡ 0 → w' ≡ replicate (length w) 0 → r ≡ chosen_of s (rank_in l) (choice_no s) → Choosing s l fits w r w'
 unfolding choosing_no
 chosen-choosing s l fits w w' r e f c =

@@ -110,6 +110,8 @@ beside_none H q p e = rw (eq-eqb q 0 e)
 pub beside-some : (H : Heights) (q p : ℕ) (meet : Bool) → (q ≢ 0) → meet ≡ overlaps H p q → not meet ≡ beside_reaching H q p
 beside-some H q p meet ne e = rw (ne_eqb q 0 ne, e)
 
+-- HOW FAR A LABEL REACHES
+
 pub climbing-first : (H : Heights) (p b : ℕ) → p < b → Climbing H p b (p + 1)
 climbing-first H p b l = record { low = omega arith; high = omega arith; none = λ z m n. absurd (omega arith) }
 

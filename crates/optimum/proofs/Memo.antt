@@ -1,6 +1,11 @@
 -- How the table is read, and how it grows. Assumes nothing.
-use Rattle.std.specs.Prelude.{◌≡◌, ℕ, ◌+◌, ◌-◌, ◌<◌, ◌≤◌, List, length, ◌≢◌, slice_set, refl}
-use Rattle.std.proofs.Common.{sym, ◌∙◌, ap, length-set, get_or-set_same, get_or-set_other, arith}
+use Rattle.std.specs.Prelude.{◌≡◌, ℕ, ◌+◌, ◌-◌, ◌<◌, ◌≤◌, List, length, replicate, ◌≢◌, slice_index, refl}
+use Rattle.std.proofs.Common.{sym, ◌∙◌, ap, arith}
+use Rattle.std.proofs.Math.Seq.{paste}
+use Rattle.std.proofs.lemmas.List.Edits.{length-paste}
+use Rattle.std.proofs.lemmas.Slice.{put_mid-paste}
+use Rattle.std.proofs.lemmas.List.{length-replicate, places}
+use borrow.Rule.Slice.PartMut.{put_mid}
 use Rattle.labeling.proofs.Decide.{same, less}
 use Rattle.recurrence.specs.Recurrence.{Heights}
 use Rattle.orders.specs.Arrays.{heights_of}
@@ -11,31 +16,28 @@ use Rattle.orders.specs.Words.{value_at}
 use Rattle.optimum.specs.Entries.{note_at, with_entry}
 use Rattle.optimum.proofs.Entries.{length-entry, entry-note, entry-note-other, entry_value, entry-value-other}
 use Rattle.optimum.specs.Slabs.{slab_place, Proper}
-use Rattle.optimum.specs.Table.{CutAt, Settled, Room, Memo, entry_at, Ready, Asked, Kept, Unnoted, Clearing, Valued, Recoverable}
+use Rattle.optimum.specs.Table.{CutAt, Settled, Room, Memo, entry_at, Ready, Asked, Kept, Unnoted, Valued, Recoverable}
 use Rattle.optimum.proofs.Steps.{fitting-le, place-room}
 use Rattle.optimum.specs.declared.table.Slab.{Slab}
 use Rattle.optimum.specs.declared.table.Found.{Found}
 
 -- NOTHING IS NOTED YET
 
--- How the notes are cleared.
-pub clearing-first : (table : List ℕ) → Clearing table table notes
-clearing-first table = record { low = omega arith; same = refl; none = λ j l. absurd (omega arith) }
+pasted-zero : (table : List ℕ) (at m i : ℕ) → at + m ≤ length table → i < m
+    → slice_index (paste table at (replicate m 0) m) (at + i) ≡ 0
+pasted-zero table at m i l u = grind (arith, places)
 
-pub clearing-next : {table t : List ℕ} {i : ℕ} → i < length table → Clearing table t i → Clearing table (slice_set t i 0) (i + 1)
+-- The notes of n points are cleared.
+pub cleared : (s table zeros : List ℕ) (n m : ℕ) → n ≡ (heights_of s).n → m ≡ tet (n + 3) → notes + m ≤ length table
+    → zeros ≡ replicate m 0 → Unnoted s table (put_mid notes (notes + m - notes) table zeros)
 unfolding note_at
-clearing-next {table} {t} {i} l x = record {
-  low = omega (arith, x.low);
-  same = length-set t i 0 ∙ x.same;
-  none = λ j u. same (notes + j) i
-      (λ e. rw e (get_or-set_same t i 0 0 (omega (arith, x.same))))
-      (λ ne. get_or-set_other t i (notes + j) 0 0 ne ∙ x.none j (omega arith));
-}
-
-pub clearing-last : {s table t : List ℕ} {i n m : ℕ} → n ≡ (heights_of s).n → m ≡ tet (n + 3) → notes + m ≤ i → Clearing table t i
-    → Unnoted s table t
-clearing-last {s} {table} {t} {i} {n} {m} e f l x =
-    record { same = x.same; none = λ j u. x.none j (omega (arith, f, ap (λ (h : ℕ). tet (h + 3)) e)) }
+cleared s table zeros n m e f l z =
+    rw (put_mid-paste notes (notes + m - notes) table zeros (replicate m 0) m z (omega arith) (omega (arith, length-replicate {A = ℕ} m 0)))
+    (record {
+      same = length-paste table notes (replicate m 0) m l (omega (arith, length-replicate {A = ℕ} m 0));
+      none = λ i u.
+          pasted-zero table notes m i l (omega (arith, f, ap (λ (h : ℕ). tet (h + 3)) e));
+    })
 
 -- A table without notes holds nothing that is wrong.
 pub memo-none : {s t table : List ℕ} → Room table → Unnoted s t table → Memo (heights_of s) table

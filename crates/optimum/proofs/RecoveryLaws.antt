@@ -1,10 +1,10 @@
 -- The flags that the recovery sets are the recovered choice's. Assumes nothing.
-use Rattle.std.specs.Prelude.{◌≡◌, ℕ, zero, suc, ◌+◌, ◌-◌, ◌<◌, ◌≤◌, Bool, true, false, cond, ◌&&◌, ◌||◌, List, length, set, ◌==◌, ◌≢◌, nat_le, nat_lt, slice_index, slice_index_or, slice_set, refl}
+use Rattle.std.specs.Prelude.{◌≡◌, ℕ, zero, suc, ◌+◌, ◌-◌, ◌<◌, ◌≤◌, Bool, true, false, cond, ◌&&◌, ◌||◌, List, length, set, ◌==◌, ◌≢◌, nat_le, nat_lt, refl}
 use Rattle.std.proofs.Math.Path.{sym, ap}
 use Rattle.std.proofs.Common.{◌∙◌, length-set, get_or-set_same}
 use native.Mathlib.Omega.{arith}
 use Rattle.std.proofs.Math.Seq.{get_or-set_other}
-use borrow.Author.Tests.{ltb-true, ltb-false, eqb-true, lt-ltb, le-ltb, le-leb, lt-leb}
+use borrow.Author.Tests.{ltb-true, ltb-false, eqb-true, lt-leb, le-leb, lt-ltb, le-ltb}
 use Rattle.labeling.proofs.Decide.{not-both, decide, same, and_right, or-rest, dec-false, dec-map, dec-unique, false_of}
 use Rattle.recurrence.specs.Recurrence.{Heights, between, reach, value, takes_in, recovered}
 use Rattle.recurrence.specs.RecurrenceTests.{Between, CanOut}
@@ -13,7 +13,8 @@ use Rattle.recurrence.proofs.Recovered.{takes_out, value-down, recovered-down}
 use Rattle.orders.specs.Arrays.{heights_of}
 use Rattle.orders.specs.Layout.{field_cells}
 use Rattle.optimum.specs.Packed.{Packed}
-use Rattle.optimum.specs.Slabs.{open_below, slab_has, slab_value, slab_takes, slab_recovered}
+use Rattle.optimum.specs.Slabs.{open_below, slab_has, slab_value, slab_takes, slab_recovered, lower_part, upper_part}
+use Rattle.optimum.specs.Split.{flagged}
 use Rattle.optimum.specs.Table.{Memo, Ready, Opened, CutAt, Recoverable, inside_flag, taken}
 use Rattle.optimum.specs.Table.{flagged_taken, Taking, Flagged, FlaggedDown, Blank, Solved}
 use Rattle.optimum.proofs.Steps.{opened, ready-low, ready-high, open-below-low, open-below-high, open-below-n, fitting-zero}
@@ -46,12 +47,12 @@ recovered-range H (suc t) a b q i e =
     (λ z. recovered-range H t a b q i (sym (recovered-skip H t a b q i z) ∙ e))
 
 -- No point is open: no flag is set.
-pub flagged-zero : (H : Heights) (t : ℕ) (x : Slab) (m : List ℕ) → t ≡ 0 → Flagged H t x m m
+pub flagged-zero : (H : Heights) (t : ℕ) (x : Slab) (m : List Bool) → t ≡ 0 → Flagged H t x m m
 unfolding recovered
 flagged-zero H t x m e = rw e (record { same = refl; set = λ i l. refl })
 
 -- The slab is cut at the point of rank t.
-flagged-out : (H : Heights) (t : ℕ) (x : Slab) → slab_has x (H.at_rank t) ≡ true → (m m₁ m₂ : List ℕ) → slab_takes H t x ≡ false
+flagged-out : (H : Heights) (t : ℕ) (x : Slab) → slab_has x (H.at_rank t) ≡ true → (m m₁ m₂ : List Bool) → slab_takes H t x ≡ false
     → Flagged H t (record { lower = x.lower; upper = H.at_rank t; reaching = x.reaching }) m m₁
     → Flagged H t (record { lower = H.at_rank t; upper = x.upper; reaching = reach H x.lower (H.at_rank t) x.reaching }) m₁ m₂
     → Flagged H (suc t) x m m₂
@@ -64,7 +65,7 @@ flagged-out H t x e m m₁ m₂ k y z = record {
       z.set i u ∙ rw (high-none i (λ g. omega (arith, g.low)), v) (y.set i u))
       (λ v.
       let v' : p ≤ i = ltb-false i p v in
-      let y' : slice_index_or m₁ i 0 ≡ slice_index_or m i 0 = y.set i u ∙ rw (low-none i (λ g. omega (arith, g.high))) in
+      let y' : flagged m₁ i ≡ flagged m i = y.set i u ∙ rw (low-none i (λ g. omega (arith, g.high))) in
       decide (nat_lt p i)
       (λ w. z.set i u ∙ rw (v, w, y'))
       (λ w.
@@ -85,7 +86,7 @@ flagged-out H t x e m m₁ m₂ k y z = record {
 -- DOWN TO THE CUT
 
 -- The flag of a point that is taken is set, and that of another isn't.
-module _ (H : Heights) (k t i r : ℕ) (m : List ℕ) (e : r ≡ H.rank i) where
+module _ (H : Heights) (k t i r : ℕ) (m : List Bool) (e : r ≡ H.rank i) where
   pub flagged-low : r < k → m ≡ flagged_taken H k t i m
   unfolding flagged_taken taken
   flagged-low l = sym (rw (lt-leb k (H.rank i) (omega arith)))
@@ -94,13 +95,13 @@ module _ (H : Heights) (k t i r : ℕ) (m : List ℕ) (e : r ≡ H.rank i) where
   unfolding flagged_taken taken
   flagged-high l u = sym (rw (le-leb k (H.rank i) (omega arith), le-ltb (H.rank i) t (omega arith)))
 
-  pub flagged-taken : k ≤ r → r < t → slice_set m i inside_flag ≡ flagged_taken H k t i m
+  pub flagged-taken : k ≤ r → r < t → set m i inside_flag ≡ flagged_taken H k t i m
   unfolding flagged_taken taken
   flagged-taken l u = sym (rw (le-leb k (H.rank i) (omega arith), lt-ltb (H.rank i) t (omega arith)))
 
 module _ {s : List ℕ} {x : Slab} {k : ℕ} (r : Ready s x) where
   -- The loop begins above the lower end,
-  pub taking-first : (m : List ℕ) → Taking (heights_of s) x k (x.lower + 1) m m
+  pub taking-first : (m : List Bool) → Taking (heights_of s) x k (x.lower + 1) m m
   taking-first m = record {
     low = omega arith;
     high = omega (arith, r.proper.order);
@@ -108,9 +109,9 @@ module _ {s : List ℕ} {x : Slab} {k : ℕ} (r : Ready s x) where
     set = λ j. rw (dec-false (dec-between x.lower j (x.lower + 1)) (λ b. omega (arith, b.low, b.high))) refl;
   }
 
-  module _ {i : ℕ} {m m₁ : List ℕ} (y : Taking (heights_of s) x k i m m₁) where
+  module _ {i : ℕ} {m m₁ : List Bool} (y : Taking (heights_of s) x k i m m₁) where
     -- takes the next point,
-    pub taking-next : (t : ℕ) (m₂ : List ℕ) → i < x.upper → length m ≡ field_cells → t ≡ open_below (heights_of s) x
+    pub taking-next : (t : ℕ) (m₂ : List Bool) → i < x.upper → length m ≡ field_cells → t ≡ open_below (heights_of s) x
         → m₂ ≡ flagged_taken (heights_of s) k t i m₁ → Taking (heights_of s) x k (i + 1) m m₂
     unfolding flagged_taken
     taking-next t m₂ l n f e =
@@ -126,8 +127,8 @@ module _ {s : List ℕ} {x : Slab} {k : ℕ} (r : Ready s x) where
           high = omega arith;
           same = ap length e' ∙ (length-set m₁ i inside_flag ∙ y.same);
           set = λ j. same j i
-              (λ v. rw (v, z, here, e') (get_or-set_same m₁ i inside_flag 0 long))
-              (λ ne. rw (e', get_or-set_other m₁ i j inside_flag 0 ne, further j ne) (y.set j));
+              (λ v. rw (v, z, here, e') (get_or-set_same m₁ i inside_flag false long))
+              (λ ne. rw (e', get_or-set_other m₁ i j inside_flag false ne, further j ne) (y.set j));
         })
         (λ z.
         let e' : m₂ ≡ m₁ = rw (f, z) at e in
@@ -162,8 +163,8 @@ module _ {s : List ℕ} {x : Slab} {k : ℕ} (r : Ready s x) where
                 ∙ rw (y.set 0, dec-false (dec-between x.lower 0 i) (λ g. omega (arith, g.low)), nothing k, nothing t) refl))
                 (λ ne. f.set j u
                 ∙ (ap (cond (slab_recovered H k x j) inside_flag) (y.set j)
-                ∙ (rw e (joined (slab_recovered H k x j) (slab_has x j && (nat_le k (H.rank j) && nat_lt (H.rank j) t)) (slice_index m j))
-                ∙ ap (λ (g : Bool). cond g inside_flag (slice_index m j))
+                ∙ (rw e (joined (slab_recovered H k x j) (slab_has x j && (nat_le k (H.rank j) && nat_lt (H.rank j) t)) (flagged m j))
+                ∙ ap (λ (g : Bool). cond g inside_flag (flagged m j))
                 (sym (recovered-down r.packed.sorted k x.lower x.upper x.reaching
                 (record { low = omega arith; high = u }) t c.below (open-below-n r) c.above)))));
           };
@@ -174,7 +175,7 @@ module _ {s : List ℕ} {x : Slab} {k : ℕ} (r : Ready s x) where
             false_of (slab_recovered (heights_of s) t x 0)
             (λ f. let g = recovered-range (heights_of s) t x.lower x.upper x.reaching 0 f in omega (arith, g.low))
 
-        joined : (u v : Bool) (d : ℕ) → cond u inside_flag (cond v inside_flag d) ≡ cond (u || v) inside_flag d
+        joined : (u v : Bool) (d : Bool) → cond u inside_flag (cond v inside_flag d) ≡ cond (u || v) inside_flag d
         joined true v d = refl
         joined false v d = refl
 
@@ -195,33 +196,33 @@ module _ {s table : List ℕ} {x : Slab} {k p : ℕ} (a : Recoverable s table x)
       (takes_out (rw prev at (value-down (open_below (heights_of s) x) c.below c.above a.some))
       (c.within (k - 1) prev) (c.out (k - 1) prev)).0
 
-  pub cut_low : Recoverable s table (record { lower = x.lower; upper = p; reaching = x.reaching })
+  pub cut_low : Recoverable s table (lower_part x p)
   cut_low = record {
     asked = record { ready = ready-low cut_opened.0; memo = a.asked.memo };
     some = rw (open-below-low cut_opened.0, cut_opened.1, e) choices.low;
   }
 
   pub cut_high : {table' : List ℕ} → Memo (heights_of s) table' → (over : ℕ) → over ≡ reach (heights_of s) x.lower p x.reaching
-      → Recoverable s table' (record { lower = p; upper = x.upper; reaching = over })
+      → Recoverable s table' (upper_part x p over)
   cut_high m over f = record {
     asked = record { ready = ready-high cut_opened.0 over f; memo = m };
     some = rw (open-below-high cut_opened.0 over, cut_opened.1, f, e) choices.high;
   }
 
   -- The flags of both parts are set: so are the slab's, below its cut.
-  pub cut-flagged : (m m₁ m₂ : List ℕ) (over : ℕ) → over ≡ reach (heights_of s) x.lower p x.reaching
-      → Flagged (heights_of s) (open_below (heights_of s) (record { lower = x.lower; upper = p; reaching = x.reaching }))
-      (record { lower = x.lower; upper = p; reaching = x.reaching }) m m₁
-      → Flagged (heights_of s) (open_below (heights_of s) (record { lower = p; upper = x.upper; reaching = over }))
-      (record { lower = p; upper = x.upper; reaching = over }) m₁ m₂
+  pub cut-flagged : (m m₁ m₂ : List Bool) (over : ℕ) → over ≡ reach (heights_of s) x.lower p x.reaching
+      → Flagged (heights_of s) (open_below (heights_of s) (lower_part x p))
+      (lower_part x p) m m₁
+      → Flagged (heights_of s) (open_below (heights_of s) (upper_part x p over))
+      (upper_part x p over) m₁ m₂
       → Flagged (heights_of s) k x m m₂
   cut-flagged m m₁ m₂ over f u v =
       let H = heights_of s in
       let r : H.rank p ≡ k - 1 = cut_opened.1 in
-      let u' : Flagged H (k - 1) (record { lower = x.lower; upper = H.at_rank (k - 1); reaching = x.reaching }) m m₁ =
+      let u' : Flagged H (k - 1) (lower_part x (H.at_rank (k - 1))) m m₁ =
       rw (open-below-low cut_opened.0, r, e) at u in
       let v' : Flagged H (k - 1)
-      (record { lower = H.at_rank (k - 1); upper = x.upper; reaching = reach H x.lower (H.at_rank (k - 1)) x.reaching }) m₁ m₂ =
+      (upper_part x (H.at_rank (k - 1)) (reach H x.lower (H.at_rank (k - 1)) x.reaching)) m₁ m₂ =
       rw (open-below-high cut_opened.0 over, r, f, e) at v in
       rw (← prev) at (flagged-out H (k - 1) x (c.within (k - 1) prev) m m₁ m₂ (c.out (k - 1) prev) u' v')
 
@@ -245,11 +246,11 @@ module _ {s : List ℕ} (k : Packed s) (n : ℕ) (e : n ≡ (heights_of s).n) wh
   all-value v f = f ∙ rw (all-open-below, end) refl
 
   -- There is no choice,
-  pub all_none : (m : List ℕ) (v : ℕ) → v ≡ slab_value (heights_of s) all_points → v ≡ 0 → Solved (heights_of s) m 0
+  pub all_none : (m : List Bool) (v : ℕ) → v ≡ slab_value (heights_of s) all_points → v ≡ 0 → Solved (heights_of s) m 0
   all_none m v f g = record { best = sym g ∙ all-value v f; flagged = λ l. absurd (omega arith) }
 
   -- or the flags are those of the best one.
-  pub all-solved : (m m' : List ℕ) (v : ℕ) → Blank m → Flagged (heights_of s) (open_below (heights_of s) all_points) all_points m m'
+  pub all-solved : (m m' : List Bool) (v : ℕ) → Blank m → Flagged (heights_of s) (open_below (heights_of s) all_points) all_points m m'
       → v ≡ slab_value (heights_of s) all_points → Solved (heights_of s) m' v
   all-solved m m' v z y f =
       let y' : Flagged (heights_of s) (heights_of s).n (record { lower = 0; upper = suc (heights_of s).n; reaching = 0 }) m m' =

@@ -1,8 +1,8 @@
 -- One entry of the table, by a loop over the ranks downwards. Assumes nothing.
-use Rattle.std.specs.Prelude.{◌≡◌, ℕ, zero, suc, ◌+◌, ◌-◌, ◌<◌, ◌≤◌, max, Bool, true, false, not, ◌&&◌, List, refl}
+use Rattle.std.specs.Prelude.{◌≡◌, ℕ, zero, suc, ◌+◌, ◌-◌, ◌<◌, ◌≤◌, max, Bool, true, false, ◌&&◌, List}
 use Rattle.std.proofs.Common.{sym, ◌∙◌, ap, add-one}
 use native.Mathlib.Omega.{arith}
-use borrow.Author.Tests.{not-true, not-false, lt-ltb, le-ltb}
+use borrow.Author.Tests.{lt-ltb, le-ltb}
 use Rattle.labeling.proofs.Decide.{not-both, same, and_left, and_right, less, dec-false}
 use Rattle.recurrence.specs.Recurrence.{Heights, Sorted, between, value, plus, join, in_value, takes_in}
 use Rattle.recurrence.specs.RecurrenceTests.{Between}
@@ -19,6 +19,7 @@ use Rattle.optimum.proofs.Steps.{reaches-fitting, at-rank, open-between, open-we
 use Rattle.optimum.specs.declared.table.Slab.{Slab}
 use Rattle.optimum.specs.declared.table.Found.{Found}
 use Rattle.optimum.specs.declared.values.Run.{Run}
+use Rattle.std.specs.declared.ops.ControlFlow.TheVariants.{Continue, Break}
 
 -- THE BETTER OF TWO
 
@@ -58,7 +59,7 @@ settled-none H x l = record {
 
 -- THE LOOP begins,
 pub running-first : (H : Heights) (x : Slab) (t : ℕ) → t ≡ open_below H x → open_below H x ≤ 32
-    → Running H x t (record { best = record { value = 0; cut = 0 }; acc = 1; ended = false })
+    → Running H x t (record { best = record { value = 0; cut = 0 }; acc = 1 })
 running-first H x t e l = record {
   below = omega arith;
   some = omega arith;
@@ -67,7 +68,6 @@ running-first H x t e l = record {
   cut_below = omega arith;
   inside = λ _. record { takes = λ r u v. absurd (omega arith) };
   outside = λ u. absurd (omega arith);
-  going = refl;
 }
 
 pub running-prev : {H : Heights} {x : Slab} {t : ℕ} {r : Run} → 0 < t → Running H x t r → Running H x (suc (t - 1)) r
@@ -90,7 +90,6 @@ running-skip {H} {x} {t} {r} e k =
       cut_below = k.cut_below;
       inside = λ l. takes-next (λ z. absurd (not-both z e)) (k.inside (rw v l));
       outside = λ l u. k.outside l (rw v u);
-      going = k.going;
     }
 
 -- What a point gives inside, with acc, if it may be, and if not.
@@ -142,7 +141,7 @@ module _ {H : Heights} {x : Slab} {t : ℕ} {r : Run} (e : slab_has x (H.at_rank
 
   -- It may be inside: the loop goes on.
   running-on : (w : ℕ) → slab_inside H t x ≡ true → w ≡ H.weight (H.at_rank t) → w < weight_bound
-      → Running H x t (record { best = better_of r.best out; acc = r.acc + w; ended = false })
+      → Running H x t (record { best = better_of r.best out; acc = r.acc + w })
   unfolding takes_in
   running-on w g h small =
       let i = in_taken H t x r.acc w k.some g h in
@@ -157,7 +156,6 @@ module _ {H : Heights} {x : Slab} {t : ℕ} {r : Run} (e : slab_has x (H.at_rank
             (λ v. absurd (omega (arith, join-rises r.acc (slab_in H t x) r.acc (slab_out H t x) (omega arith) v, i, f, next-is)))))
             (k.inside (omega (arith, both, i, next-is)));
         outside = λ l u. next-cut l (omega (arith, i));
-        going = refl;
       }
 
   -- It may not: the loop ends.
@@ -170,7 +168,7 @@ module _ {H : Heights} {x : Slab} {t : ℕ} {r : Run} (e : slab_has x (H.at_rank
 running-safe : {H : Heights} → Sorted H → {x : Slab} {t : ℕ} {r : Run} → Safe H t x.lower x.upper x.reaching
     → Running H x (suc t) r
     → (w : ℕ) → w ≡ H.weight (H.at_rank t) → 1 ≤ w → w < weight_bound
-    → Running H x t (record { best = r.best; acc = r.acc + w; ended = false })
+    → Running H x t (record { best = r.best; acc = r.acc + w })
 unfolding takes_in in_value
 running-safe {H} L {x} {t} {r} is k w h heavy small =
     let no_more : slab_out H t x ≤ slab_below H t x = safe-outside L is in
@@ -190,13 +188,12 @@ running-safe {H} L {x} {t} {r} is k w h heavy small =
           let none : slab_below H t x ≡ 0 = omega arith in absurd (omega (arith, ap (join (r.acc + w)) none, join-none (r.acc + w))))))
           (k.inside (omega (arith, whole)));
       outside = λ l u. k.outside l (omega (arith, whole));
-      going = refl;
     }
 
 -- ONE STEP, as the program takes it: the point isn't between,
 pub step_skip : {s : List ℕ} {x : Slab} {t : ℕ} {r : Run} {table : List ℕ} (p : ℕ) → p ≡ (heights_of s).at_rank t
-    → slab_has x p ≡ false → Running (heights_of s) x (suc t) r → Kept s table table → Stepped s x t r table table
-step_skip p e b k m = record { on = λ _. running-skip (rw e at b) k; off = λ y. absurd (not-both y k.going); kept = m }
+    → slab_has x p ≡ false → Running (heights_of s) x (suc t) r → Kept s table table → Stepped s x t (Continue r) table table
+step_skip p e b k m = record { step = running-skip (rw e at b) k; kept = m }
 
 module _ {s : List ℕ} {x : Slab} {t p : ℕ} {r : Run} {table table' : List ℕ}
     (o : Opened s x p × ((heights_of s).rank p ≡ t)) (k : Running (heights_of s) x (suc t) r) (m : Kept s table table')
@@ -216,7 +213,7 @@ module _ {s : List ℕ} {x : Slab} {t p : ℕ} {r : Run} {table table' : List �
 
   -- is safe,
   pub step-safe : (safe : Bool) → safe ≡ (g && unreached (heights_of s) p x.upper) → safe ≡ true → (w : ℕ) → w ≡ (heights_of s).weight p
-      → Stepped s x t (record { best = r.best; acc = r.acc + w; ended = false }) table table'
+      → Stepped s x t (Continue (record { best = r.best; acc = r.acc + w })) table table'
   step-safe safe d e w v =
       let H = heights_of s in
       let L = o.0.ready.packed.sorted in
@@ -232,29 +229,21 @@ module _ {s : List ℕ} {x : Slab} {t p : ℕ} {r : Run} {table table' : List �
         unreached = rw point none;
       } in
       record {
-        on = λ _.
-            running-safe L is k w (v ∙ rw point) (omega (arith, v, o.0.ready.packed.heavy p o.0.point)) (open-weight o.0 w v);
-        off = λ z. absurd (not-both z refl);
+        step = running-safe L is k w (v ∙ rw point) (omega (arith, v, o.0.ready.packed.heavy p o.0.point)) (open-weight o.0 w v);
         kept = m;
       }
 
   module _ (out : Found) (f : out.value ≡ join r.acc (slab_out (heights_of s) ((heights_of s).rank p) x))
       (c : out.cut ≡ t + 1) (best : Found) (b : best ≡ better_of r.best out) where
     -- may not be inside,
-    pub step-stop : (acc : ℕ) → not g ≡ true → Stepped s x t (record { best = best; acc = acc; ended = true }) table table'
-    step-stop acc z = record {
-      on = λ y. absurd (not-both refl y);
-      off = λ _. rw b (running-stop here k out (rw o.1 at f) (c ∙ add-one t) (sym inside-here ∙ not-true g z));
-      kept = m;
-    }
+    pub step-stop : g ≡ false → Stepped s x t (Break best) table table'
+    step-stop z = record { step = rw b (running-stop here k out (rw o.1 at f) (c ∙ add-one t) (sym inside-here ∙ z)); kept = m }
 
     -- or may.
-    pub step-on : (w : ℕ) → not g ≡ false → w ≡ (heights_of s).weight p
-        → Stepped s x t (record { best = best; acc = r.acc + w; ended = false }) table table'
+    pub step-on : (w : ℕ) → g ≡ true → w ≡ (heights_of s).weight p
+        → Stepped s x t (Continue (record { best = best; acc = r.acc + w })) table table'
     step-on w z v = record {
-      on = λ _. rw b (running-on here k out (rw o.1 at f) (c ∙ add-one t) w (sym inside-here ∙ not-false g z)
-          (v ∙ rw point) (open-weight o.0 w v));
-      off = λ y. absurd (not-both y refl);
+      step = rw b (running-on here k out (rw o.1 at f) (c ∙ add-one t) w (sym inside-here ∙ z) (v ∙ rw point) (open-weight o.0 w v));
       kept = m;
     }
 

@@ -16,7 +16,7 @@ use Rattle.optimum.specs.Places.{entries, place_of}
 use Rattle.optimum.proofs.Places.{place-below}
 use Rattle.optimum.specs.Packed.{Packed}
 use Rattle.optimum.specs.Conflicts.{Candidate}
-use Rattle.optimum.specs.Slabs.{open_below, slab_has, slab_below, slab_value, slab_out, slab_place, fitting}
+use Rattle.optimum.specs.Slabs.{open_below, slab_has, slab_below, slab_value, slab_out, slab_place, lower_part, upper_part, fitting}
 use Rattle.optimum.specs.Table.{Ready, Opened}
 use Rattle.optimum.specs.declared.table.Slab.{Slab}
 
@@ -151,19 +151,13 @@ module _ {s : List ℕ} {x : Slab} {p : ℕ} (o : Opened s x p) where
   open-weight w e = omega (arith, weight-small s p o.ready.packed o.point)
 
   -- THE PARTS OF A CUT AT IT are slabs.
-  abbrev lower_part : Slab
-  lower_part = record { lower = x.lower; upper = p; reaching = x.reaching }
-
-  abbrev upper_part : ℕ → Slab
-  upper_part q = record { lower = p; upper = x.upper; reaching = q }
-
-  pub ready-low : Ready s lower_part
+  pub ready-low : Ready s (lower_part x p)
   ready-low = record {
     packed = o.ready.packed;
     proper = record { order = o.low; upper = omega (arith, o.high, o.ready.proper.upper); fits = o.ready.proper.fits };
   }
 
-  pub ready-high : (q : ℕ) → q ≡ reach (heights_of s) x.lower p x.reaching → Ready s (upper_part q)
+  pub ready-high : (q : ℕ) → q ≡ reach (heights_of s) x.lower p x.reaching → Ready s (upper_part x p q)
   ready-high q z = record {
     packed = o.ready.packed;
     proper = record {
@@ -174,36 +168,36 @@ module _ {s : List ℕ} {x : Slab} {p : ℕ} (o : Opened s x p) where
   }
 
   -- Their limits are the point's rank.
-  pub open-below-low : open_below (heights_of s) lower_part ≡ (heights_of s).rank p
+  pub open-below-low : open_below (heights_of s) (lower_part x p) ≡ (heights_of s).rank p
   unfolding open_below
   open-below-low = omega (arith, o.below)
 
-  pub open-below-high : (q : ℕ) → open_below (heights_of s) (upper_part q) ≡ (heights_of s).rank p
+  pub open-below-high : (q : ℕ) → open_below (heights_of s) (upper_part x p q) ≡ (heights_of s).rank p
   unfolding open_below
   open-below-high q = omega (arith, o.below)
 
   -- Their values,
-  pub low_value : (v : ℕ) → v ≡ slab_value (heights_of s) lower_part → v ≡ slab_below (heights_of s) ((heights_of s).rank p) lower_part
-  low_value v f = f ∙ ap (λ (u : ℕ). slab_below (heights_of s) u lower_part) open-below-low
+  pub low_value : (v : ℕ) → v ≡ slab_value (heights_of s) (lower_part x p) → v ≡ slab_below (heights_of s) ((heights_of s).rank p) (lower_part x p)
+  low_value v f = f ∙ ap (λ (u : ℕ). slab_below (heights_of s) u (lower_part x p)) open-below-low
 
-  pub high_value : (v q : ℕ) → v ≡ slab_value (heights_of s) (upper_part q) → q ≡ reach (heights_of s) x.lower p x.reaching
-      → v ≡ slab_below (heights_of s) ((heights_of s).rank p) (upper_part (reach (heights_of s) x.lower p x.reaching))
+  pub high_value : (v q : ℕ) → v ≡ slab_value (heights_of s) (upper_part x p q) → q ≡ reach (heights_of s) x.lower p x.reaching
+      → v ≡ slab_below (heights_of s) ((heights_of s).rank p) (upper_part x p (reach (heights_of s) x.lower p x.reaching))
   high_value v q f z =
-      f ∙ (ap (λ (u : ℕ). slab_below (heights_of s) u (upper_part q)) (open-below-high q)
+      f ∙ (ap (λ (u : ℕ). slab_below (heights_of s) u (upper_part x p q)) (open-below-high q)
       ∙ ap (value (heights_of s) ((heights_of s).rank p) p x.upper) z)
 
   -- which are small,
-  pub low_small : (v : ℕ) → v ≡ slab_below (heights_of s) ((heights_of s).rank p) lower_part → v ≤ weight_bound
+  pub low_small : (v : ℕ) → v ≡ slab_below (heights_of s) ((heights_of s).rank p) (lower_part x p) → v ≤ weight_bound
   low_small v e = omega (arith, value-small ready-low ((heights_of s).rank p) open-below)
 
-  pub high_small : (v : ℕ) → v ≡ slab_below (heights_of s) ((heights_of s).rank p) (upper_part (reach (heights_of s) x.lower p x.reaching))
+  pub high_small : (v : ℕ) → v ≡ slab_below (heights_of s) ((heights_of s).rank p) (upper_part x p (reach (heights_of s) x.lower p x.reaching))
       → v ≤ weight_bound
   high_small v e = omega (arith, value-small (ready-high _ refl) ((heights_of s).rank p) open-below)
 
   -- are what the point gives outside; in the row of the upper end it can't be outside.
   pub out-cut : (acc z u v : ℕ) → rows_differ (heights_of s) p x.upper ≡ true → z ≡ join acc (join u v)
-      → u ≡ slab_below (heights_of s) ((heights_of s).rank p) lower_part
-      → v ≡ slab_below (heights_of s) ((heights_of s).rank p) (upper_part (reach (heights_of s) x.lower p x.reaching))
+      → u ≡ slab_below (heights_of s) ((heights_of s).rank p) (lower_part x p)
+      → v ≡ slab_below (heights_of s) ((heights_of s).rank p) (upper_part x p (reach (heights_of s) x.lower p x.reaching))
       → z ≡ join acc (slab_out (heights_of s) ((heights_of s).rank p) x)
   unfolding out_value
   out-cut acc z u v c f g h = f ∙ rw (at-rank, c, g, h)

@@ -37,6 +37,14 @@ slab_takes H t x = takes_in H t x.lower x.upper x.reaching
 abbrev pub slab_recovered : Heights → ℕ → Slab → ℕ → Bool
 slab_recovered H t x i = recovered H t x.lower x.upper x.reaching i
 
+-- The parts of a slab that is cut at the point p: below p, and above it, where the label of q reaches over p, or that of none, where q
+-- is 0.
+abbrev pub lower_part : Slab → ℕ → Slab
+lower_part x p = record x { upper = p }
+
+abbrev pub upper_part : Slab → ℕ → ℕ → Slab
+upper_part x p q = record x { lower = p; reaching = q }
+
 -- The place of its entry in the table.
 abbrev pub slab_place : Slab → ℕ
 slab_place x = place_of x.lower x.upper x.reaching

@@ -1,18 +1,21 @@
 -- What the table holds, and what the functions over it ask and leave: definitions. Assumes nothing.
-use Rattle.std.specs.Prelude.{◌≡◌, ℕ, suc, ◌+◌, ◌-◌, ◌*◌, ◌<◌, ◌≤◌, max, Bool, true, false, cond, ◌&&◌, List, length, ◌≢◌, nat_le, nat_lt, slice_index, slice_set}
+use Rattle.std.specs.Prelude.{◌≡◌, ℕ, suc, ◌+◌, ◌-◌, ◌*◌, ◌<◌, ◌≤◌, max, Bool, true, false, cond, ◌&&◌, List, length, ◌≢◌, nat_le, nat_lt, slice_set}
 use Rattle.recurrence.specs.Recurrence.{Heights, Point, between, value, join, recovered}
 use Rattle.recurrence.specs.Recovered.{TakesDown}
 use Rattle.orders.specs.Arrays.{heights_of}
 use Rattle.orders.specs.Sums.{tet}
 use Rattle.orders.specs.Layout.{field_cells, weight_bound}
-use Rattle.optimum.specs.Places.{notes, table_cells}
+use Rattle.optimum.specs.Places.{table_cells}
 use Rattle.optimum.specs.Packed.{Packed}
+use Rattle.optimum.specs.Split.{flagged}
 use Rattle.orders.specs.Words.{value_at}
 use Rattle.optimum.specs.Entries.{note_at}
 use Rattle.optimum.specs.Slabs.{open_below, slab_has, slab_below, slab_value, slab_out, slab_takes, slab_recovered, slab_place, Proper}
 use Rattle.optimum.specs.declared.table.Slab.{Slab}
 use Rattle.optimum.specs.declared.table.Found.{Found}
 use Rattle.optimum.specs.declared.values.Run.{Run}
+use Rattle.std.specs.declared.ops.ControlFlow.{ControlFlow}
+use Rattle.std.specs.declared.ops.ControlFlow.TheVariants.{Continue, Break}
 
 -- THE CUT of a slab: it is cut at the point of rank k - 1 or, where k is 0, nowhere. The recovery takes in the open points of greater rank,
 -- and leaves that point outside.
@@ -63,12 +66,6 @@ pub record Unnoted (s table table' : List ℕ) : Type 0 where
   pub same : length table' ≡ length table
   pub none : (i : ℕ) → i < tet ((heights_of s).n + 3) → note_at table' i ≡ 0
 
--- The notes before the cell i are cleared.
-pub record Clearing (table table' : List ℕ) (i : ℕ) : Type 0 where
-  pub low : notes ≤ i
-  pub same : length table' ≡ length table
-  pub none : (j : ℕ) → notes + j < i → note_at table' j ≡ 0
-
 -- r is the value of a slab, whose entry is noted now.
 pub record Valued (s : List ℕ) (x : Slab) (r : ℕ) (table table' : List ℕ) : Type 0 where
   pub is : r ≡ slab_value (heights_of s) x
@@ -112,19 +109,22 @@ pub record Running (H : Heights) (x : Slab) (t : ℕ) (r : Run) : Type 0 where
   pub cut_below : r.best.cut ≤ open_below H x
   pub inside : r.best.value < join r.acc (slab_below H t x) → TakesDown H t (open_below H x) x.lower x.upper x.reaching
   pub outside : 1 ≤ r.best.value → join r.acc (slab_below H t x) ≤ r.best.value → CutAt H x r.best.cut
-  pub going : r.ended ≡ false
 
--- What a step at rank t leaves: the loop goes on, or ends with best.
-pub record Stepped (s : List ℕ) (x : Slab) (t : ℕ) (r : Run) (table table' : List ℕ) : Type 0 where
-  pub on : r.ended ≡ false → Running (heights_of s) x t r
-  pub off : r.ended ≡ true → Settled (heights_of s) x r.best
+-- A step at rank t: the loop goes on, or ends with the best.
+abbrev pub Step : Heights → Slab → ℕ → ControlFlow Found Run → Type 0
+Step H x t (Continue r) = Running H x t r
+Step H x t (Break f) = Settled H x f
+
+-- What a step leaves.
+pub record Stepped (s : List ℕ) (x : Slab) (t : ℕ) (r : ControlFlow Found Run) (table table' : List ℕ) : Type 0 where
+  pub step : Step (heights_of s) x t r
   pub kept : Kept s table table'
 
 -- THE RECOVERY
 
--- The flag of an inside point; that of an outside point is 0.
-abbrev pub inside_flag : ℕ
-inside_flag = 1
+-- The flag of an inside point; that of an outside point is false.
+abbrev pub inside_flag : Bool
+inside_flag = true
 
 -- A slab that has a choice, and the table.
 pub record Recoverable (s table : List ℕ) (x : Slab) : Type 0 where
@@ -132,12 +132,12 @@ pub record Recoverable (s table : List ℕ) (x : Slab) : Type 0 where
   pub some : 1 ≤ slab_value (heights_of s) x
 
 -- The flags of the points that the recovery of the ranks below t puts inside are set, and no others changed.
-pub record Flagged (H : Heights) (t : ℕ) (x : Slab) (flags flags' : List ℕ) : Type 0 where
+pub record Flagged (H : Heights) (t : ℕ) (x : Slab) (flags flags' : List Bool) : Type 0 where
   pub same : length flags' ≡ length flags
-  pub set : (i : ℕ) → i ≤ H.n → slice_index flags' i ≡ cond (slab_recovered H t x i) inside_flag (slice_index flags i)
+  pub set : (i : ℕ) → i ≤ H.n → flagged flags' i ≡ cond (slab_recovered H t x i) inside_flag (flagged flags i)
 
 -- They are, and the table may have grown.
-pub record FlaggedBelow (s : List ℕ) (t : ℕ) (x : Slab) (flags flags' table table' : List ℕ) : Type 0 where
+pub record FlaggedBelow (s : List ℕ) (t : ℕ) (x : Slab) (flags flags' : List Bool) (table table' : List ℕ) : Type 0 where
   pub flagged : Flagged (heights_of s) t x flags flags'
   pub kept : Kept s table table'
 
@@ -146,30 +146,30 @@ unfoldable pub taken : Heights → ℕ → ℕ → ℕ → Bool
 taken H k t i = nat_le k (H.rank i) && nat_lt (H.rank i) t
 
 -- Its flag is set.
-unfoldable pub flagged_taken : Heights → ℕ → ℕ → ℕ → List ℕ → List ℕ
+unfoldable pub flagged_taken : Heights → ℕ → ℕ → ℕ → List Bool → List Bool
 flagged_taken H k t i flags = cond (taken H k t i) (slice_set flags i inside_flag) flags
 
 -- The flags of such points below i are set, and no others changed.
-pub record Taking (H : Heights) (x : Slab) (k i : ℕ) (flags flags' : List ℕ) : Type 0 where
+pub record Taking (H : Heights) (x : Slab) (k i : ℕ) (flags flags' : List Bool) : Type 0 where
   pub low : x.lower < i
   pub high : i ≤ x.upper
   pub same : length flags' ≡ length flags
-  pub set : (j : ℕ) → slice_index flags' j ≡ cond (between x.lower j i && taken H k (open_below H x) j) inside_flag (slice_index flags j)
+  pub set : (j : ℕ) → flagged flags' j ≡ cond (between x.lower j i && taken H k (open_below H x) j) inside_flag (flagged flags j)
 
 -- The flags of the points of rank k or more are set: whatever sets those below from there on sets all of them.
-pub record FlaggedDown (H : Heights) (x : Slab) (k : ℕ) (flags flags' : List ℕ) : Type 0 where
+pub record FlaggedDown (H : Heights) (x : Slab) (k : ℕ) (flags flags' : List Bool) : Type 0 where
   pub same : length flags' ≡ length flags
-  pub whole : (flags'' : List ℕ) → Flagged H k x flags' flags'' → Flagged H (open_below H x) x flags flags''
+  pub whole : (flags'' : List Bool) → Flagged H k x flags' flags'' → Flagged H (open_below H x) x flags flags''
 
 -- THE WHOLE
 
 -- No flag is set.
-pub record Blank (flags : List ℕ) : Type 0 where
+pub record Blank (flags : List Bool) : Type 0 where
   pub long : length flags ≡ field_cells
-  pub zero : (i : ℕ) → i < field_cells → slice_index flags i ≡ 0
+  pub zero : (i : ℕ) → i < field_cells → flagged flags i ≡ false
 
 -- THE RESULT: r is the value of all points, 0 where no choice is without conflicts. Where there is one, each point's flag is as the
 -- recovery puts it.
-pub record Solved (H : Heights) (flags : List ℕ) (r : ℕ) : Type 0 where
+pub record Solved (H : Heights) (flags : List Bool) (r : ℕ) : Type 0 where
   pub best : r ≡ value H H.n 0 (suc H.n) 0
-  pub flagged : 1 ≤ r → (i : ℕ) → Point H i → slice_index flags i ≡ cond (recovered H H.n 0 (suc H.n) 0 i) inside_flag 0
+  pub flagged : 1 ≤ r → (i : ℕ) → Point H i → flagged flags i ≡ cond (recovered H H.n 0 (suc H.n) 0 i) inside_flag false

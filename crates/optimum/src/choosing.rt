@@ -7,75 +7,43 @@ ghost use Rattle.orders.specs.Arrays.{heights_of};
 ghost use Rattle.optimum.specs.Packed.{Packed};
 ghost use Rattle.optimum.specs.Table.{Room, Blank, Solved};
 ghost use Rattle.optimum.specs.Split.{Numbered};
-ghost use Rattle.optimum.specs.Choosing.{nothing_chosen, chosen_of};
+ghost use Rattle.optimum.specs.Choosing.{chosen_of};
 ghost use Rattle.optimum.specs.Chosen.{TwoLists};
-ghost use Rattle.orders.specs.Layout.{field_cells};
 
 use crate::BestChoice;
 use crate::limits::write_limits;
-use crate::lists::{Flags, by_position, list_inside, list_outside, zeros};
+use crate::lists::{Flags, by_position, list_inside, list_outside};
 use crate::points::point_count;
 use crate::recovery::slab;
 use crate::table::{Slab, clear_notes};
 use crate::values::value_of;
+use format::Refusal;
 use orders::PointArray;
 use orders::layout::FIELD_CELLS;
 
-// No point has its flag set yet.
-fn none_flagged() -> Flags
-    ensures { result ≡ replicate field_cells 0 }
-{
-    [0; FIELD_CELLS]
-}
-
-// Every number becomes 0.
+// Every number becomes 0: `fill` promises it by five clauses on clones, this by one equation.
 fn clear(workspace: &mut [u16])
     ensures { workspace.new ≡ replicate (length workspace.old) 0 }
 {
-    let mut i = 0;
-    while i < workspace.len() {
-        workspace[i] = 0;
-        i += 1;
-    }
-}
-
-// The answer where a question is answered no.
-pub(crate) fn nothing_chosen(no: u8) -> BestChoice
-    ensures { result ≡ nothing_chosen no }
-{
-    BestChoice {
-        no,
-        inside: zeros(),
-        inside_count: 0,
-        outside: zeros(),
-        outside_count: 0,
-    }
+    workspace.fill(0);
 }
 
 // The two lists of a choice of n points, by position.
-fn two_lists(n: u8, heights: &PointArray, choice: &[u8; 32]) -> BestChoice
+fn two_lists(n: u8, heights: &PointArray, choice: &[bool; 32]) -> BestChoice
     requires { (n ≤ 32) × Numbered heights.now }
     ensures { TwoLists n heights.now choice.now result }
 {
-    let mut inside = zeros();
-    let inside_count = list_inside(choice, n, &mut inside) as u8;
-    let mut outside = zeros();
-    let outside_count = list_outside(heights, choice, &mut outside) as u8;
-    BestChoice {
-        no: 0,
-        inside,
-        inside_count,
-        outside,
-        outside_count,
-    }
+    let inside = list_inside(choice, n);
+    let outside = list_outside(heights, choice);
+    BestChoice { inside, outside }
 }
 
 // Sets the flags of the inside points of the best choice, and gives one more than its weight, or 0 where no choice is without conflicts.
-// The table is in the workspace.
+// The table is in the workspace. The value is a number, as the recurrence has it.
 fn solve(heights: &PointArray, workspace: &mut [u16], flags: &mut Flags) -> u64
     requires { Packed heights.now × Room workspace.old × Blank flags.old }
     ensures { Solved (heights_of heights.now) flags.new result
-        × (length flags.new ≡ field_cells) × (length workspace.new ≡ length workspace.old) }
+        × (length workspace.new ≡ length workspace.old) }
 {
     clear_notes(heights, workspace);
     let all = Slab {
@@ -93,20 +61,23 @@ fn solve(heights: &PointArray, workspace: &mut [u16], flags: &mut Flags) -> u64
 
 // The best choice of an accepted sheet, whose points are in order, or 61 where no choice is valid. It is the best by whatever ranks the
 // points have their weights from. The workspace is left zero.
-pub(crate) fn chosen(sheet: &[u8], points: PointArray, workspace: &mut [u16]) -> BestChoice
-    requires { (sheet_no sheet.now ≡ 0) × ((rank : ℕ → ℕ) × BothOrders rank sheet.now points) × Room workspace.old }
-    ensures { ((rank : ℕ → ℕ) → BothOrders rank sheet.now points
+pub(crate) fn chosen(
+    sheet: &[u8],
+    mut heights: PointArray,
+    workspace: &mut [u16],
+) -> Result<BestChoice, Refusal>
+    requires { (sheet_no sheet.now ≡ 0) × ((rank : ℕ → ℕ) × BothOrders rank sheet.now heights) × Room workspace.old }
+    ensures { ((rank : ℕ → ℕ) → BothOrders rank sheet.now heights
         → result ≡ chosen_of sheet.now rank (choice_no sheet.now))
         × (workspace.new ≡ replicate (length workspace.old) 0) }
 {
-    let mut heights = points;
     write_limits(&mut heights);
-    let mut flags = none_flagged();
+    let mut flags = [false; FIELD_CELLS];
     let value = solve(&heights, workspace, &mut flags);
     clear(workspace);
     if value == 0 {
-        return nothing_chosen(61);
+        return Err(Refusal::NoValidChoice);
     }
     let choice = by_position(&heights, &flags);
-    two_lists(format::point_count(sheet), &heights, &choice)
+    Ok(two_lists(format::point_count(sheet), &heights, &choice))
 }

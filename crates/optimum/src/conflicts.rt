@@ -13,30 +13,26 @@ use crate::points::{
 use crate::table::Slab;
 use orders::PointArray;
 
-// Two stretches of length d, from x and from y on, share a place.
+// Two stretches of length d, from x and from y on, share a place. The crate clash has this line over a plate's 16-bit numbers: neither
+// uses the other.
 fn stretches_overlap(x: usize, y: usize, d: usize) -> bool
     requires { (x < 65536) × (y < 65536) × (d < 65536) }
     ensures { result ≡ stretches_overlap x y d }
 {
-    if x >= y + d {
-        return false;
-    }
-    y < x + d
+    x < y + d && y < x + d
 }
 
 // The labels of i and j share a pixel.
+#[tactic(auto, unfolding(recurrence::specs::Recurrence::overlaps))]
 pub(crate) fn overlaps(heights: &PointArray, i: usize, j: usize) -> bool
     requires { (i < field_cells) × (j < field_cells) }
     ensures { result ≡ overlaps (heights_of heights.now) i j }
 {
-    if !stretches_overlap(
+    stretches_overlap(
         column_at(heights, i),
         column_at(heights, j),
         label_width(heights),
-    ) {
-        return false;
-    }
-    stretches_overlap(
+    ) && stretches_overlap(
         row_at(heights, i),
         row_at(heights, j),
         label_height(heights),
@@ -44,17 +40,14 @@ pub(crate) fn overlaps(heights: &PointArray, i: usize, j: usize) -> bool
 }
 
 // The label of the point i, which isn't above p, reaches over p's row, on the right of p.
+#[tactic(auto, unfolding(recurrence::specs::Recurrence::reaches_over))]
 pub(crate) fn reaches_over(heights: &PointArray, p: usize, i: usize) -> bool
     requires { (1 ≤ i) × (i ≤ p) × (p < field_cells) }
     ensures { result ≡ reaches_over (heights_of heights.now) p i }
 {
-    if row_at(heights, p) >= row_at(heights, i) + label_height(heights) {
-        return false;
-    }
-    if column_at(heights, p) >= column_at(heights, i) {
-        return false;
-    }
-    column_at(heights, i) < column_at(heights, p) + label_width(heights)
+    row_at(heights, p) < row_at(heights, i) + label_height(heights)
+        && column_at(heights, p) < column_at(heights, i)
+        && column_at(heights, i) < column_at(heights, p) + label_width(heights)
 }
 
 // The label that reaches over p, in the upper part of a slab that is cut at p: its point, or 0.
@@ -66,35 +59,28 @@ pub(crate) fn reach(heights: &PointArray, slab: Slab, p: usize) -> usize
     if top > slab.lower {
         return top;
     }
-    if slab.reaching == 0 {
-        return 0;
-    }
-    if reaches_over(heights, p, slab.reaching) {
+    if slab.reaching != 0 && reaches_over(heights, p, slab.reaching) {
         return slab.reaching;
     }
     0
 }
 
 // The label of p ends below the leader of b, if b is a point.
+#[tactic(auto, unfolding(crate::specs::Conflicts::ends_below))]
 fn ends_below(heights: &PointArray, p: usize, b: usize) -> bool
     requires { (p < field_cells) × (b < field_cells) }
     ensures { result ≡ ends_below (heights_of heights.now) p b }
 {
-    if point_count(heights) < b {
-        return true;
-    }
-    row_at(heights, p) + label_height(heights) <= row_at(heights, b)
+    point_count(heights) < b || row_at(heights, p) + label_height(heights) <= row_at(heights, b)
 }
 
 // The point p isn't in the row of b, if b is a point.
+#[tactic(auto, unfolding(recurrence::specs::Recurrence::rows_differ))]
 pub(crate) fn rows_differ(heights: &PointArray, p: usize, b: usize) -> bool
     requires { (p < field_cells) × (b < field_cells) }
     ensures { result ≡ rows_differ (heights_of heights.now) p b }
 {
-    if point_count(heights) < b {
-        return true;
-    }
-    row_at(heights, p) != row_at(heights, b)
+    point_count(heights) < b || row_at(heights, p) != row_at(heights, b)
 }
 
 // The open point p of a slab may be inside, where the points right of it in the slab are.
@@ -103,20 +89,9 @@ pub(crate) fn may_be_inside(heights: &PointArray, slab: Slab, p: usize) -> bool
     ensures { result ≡ may_be_inside (heights_of heights.now) ((heights_of heights.now).rank p)
         slab.lower slab.upper slab.reaching }
 {
-    if !allowed_at(heights, p) {
-        return false;
-    }
-    if top_at(heights, p) > slab.lower {
-        return false;
-    }
-    if high_at(heights, p) < slab.upper {
-        return false;
-    }
-    if !ends_below(heights, p, slab.upper) {
-        return false;
-    }
-    if slab.reaching == 0 {
-        return true;
-    }
-    !overlaps(heights, p, slab.reaching)
+    allowed_at(heights, p)
+        && top_at(heights, p) <= slab.lower
+        && slab.upper <= high_at(heights, p)
+        && ends_below(heights, p, slab.upper)
+        && (slab.reaching == 0 || !overlaps(heights, p, slab.reaching))
 }

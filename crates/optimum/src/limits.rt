@@ -11,6 +11,7 @@ use orders::PointArray;
 use orders::layout::{FIRST_HIGH, FIRST_TOP};
 
 // The label of i ends below the row of j.
+#[tactic(auto, unfolding(crate::specs::Limits::label_below))]
 pub(crate) fn label_below(heights: &PointArray, i: usize, j: usize) -> bool
     requires { (i < field_cells) × (j < field_cells) }
     ensures { result ≡ label_below (heights_of heights.now) i j }
@@ -19,30 +20,30 @@ pub(crate) fn label_below(heights: &PointArray, i: usize, j: usize) -> bool
 }
 
 // The column of j is one of those from `from` on, and below `to`.
+#[tactic(auto, unfolding(crate::specs::Limits::column_within))]
 fn column_within(heights: &PointArray, j: usize, from: usize, to: usize) -> bool
     requires { j < field_cells }
     ensures { result ≡ column_within (heights_of heights.now) j from to }
 {
     let column = column_at(heights, j);
-    (from <= column) & (column < to)
+    from <= column && column < to
 }
 
-// The topmost point whose label reaches over i, or 0.
+// The topmost point whose label reaches over i, or 0. `high` is a loop of its own: it goes the other way, compares the other label's end,
+// and has another answer for none, which as parameters and closures would be longer than the loop.
 fn top(heights: &PointArray, i: usize) -> usize
     requires { InOrder heights.now × Point (heights_of heights.now) i }
     ensures { (result ≡ top_of (heights_of heights.now) i) × (result < field_cells) }
 {
     let column = column_at(heights, i);
     let to = column + label_width(heights);
-    let mut j = i - 1;
-    while j > 0 {
+    for j in (1..i).rev() {
         if label_below(heights, j, i) {
             return 0;
         }
         if column_within(heights, j, column + 1, to) {
             return j;
         }
-        j -= 1;
     }
     0
 }
@@ -55,15 +56,13 @@ fn high(heights: &PointArray, i: usize) -> usize
     let n = point_count(heights);
     let column = column_at(heights, i);
     let to = column + label_width(heights);
-    let mut j = i + 1;
-    while j <= n {
+    for j in i + 1..n + 1 {
         if label_below(heights, i, j) {
             return n + 1;
         }
         if column_within(heights, j, column, to) {
             return j;
         }
-        j += 1;
     }
     n + 1
 }
@@ -73,13 +72,10 @@ pub(crate) fn write_limits(heights: &mut PointArray)
     requires { InOrder heights.old }
     ensures { Limited heights.old heights.new }
 {
-    let n = point_count(heights);
-    let mut k = 0;
-    while k < n {
+    for k in 0..point_count(heights) {
         let topmost = top(heights, k + 1) as u16;
         let least = high(heights, k + 1) as u16;
         heights[FIRST_TOP + k] = topmost;
         heights[FIRST_HIGH + k] = least;
-        k += 1;
     }
 }

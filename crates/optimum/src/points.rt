@@ -1,5 +1,7 @@
 // Reading the points in height order from their array. orders/specs/Arrays.antt has its layout.
-ghost use Rattle.std.specs.Prelude.{◌≡◌, ◌+◌, ◌*◌, ◌<◌, slice_index};
+#![tactic(auto, unfolding(orders::specs::Arrays::heights_of))]
+
+ghost use Rattle.std.specs.Prelude.{◌≡◌, ◌<◌, slice_index};
 ghost use Rattle.recurrence.specs.Recurrence.{Point};
 ghost use Rattle.recurrence.specs.Comparisons.{high_of, top_of};
 ghost use Rattle.orders.specs.Arrays.{heights_of};
@@ -7,39 +9,20 @@ ghost use Rattle.optimum.specs.Packed.{Packed};
 ghost use Rattle.orders.specs.Sums.{tri, tet};
 ghost use Rattle.orders.specs.Layout.{field_cells, sum_cells, array_cells};
 
+use crate::words::read_value;
 use orders::PointArray;
 use orders::layout::{
     ALLOWED_FIELD, AT_RANK_FIELD, COUNT_CELL, HEIGHT_CELL, HIGH_FIELD, RANK_FIELD, ROW_FIELD,
     TETRAHEDRAL_FIELD, TOP_FIELD, TRIANGULAR_FIELD, WEIGHT_FIELD, WIDTH_CELL,
 };
 
-// A cell as a number of 64 bits.
-fn wide(x: u16) -> u64
-    ensures { (result ≡ x) × (result < 65536) }
-{
-    x as u64
-}
-
-// A number of 64 bits from its four cells, low cell first.
-pub(crate) fn four_cells(c: u16, d: u16, e: u16, f: u16) -> u64
-    ensures { result ≡ c + d * 65536 + e * 4294967296 + f * 281474976710656 }
-{
-    wide(c) + wide(d) * 65536 + wide(e) * 4294967296 + wide(f) * 281474976710656
-}
-
-// A cell as an index.
-pub(crate) fn number(x: u16) -> usize
-    ensures { (result ≡ x) × (result < 65536) }
-{
-    x as usize
-}
-
-// The cell at place i.
+// The cell at place i. Each field has a function that reads it and says what of the points it is, with the bound that sums of such numbers ask
+// for.
 fn cell(heights: &PointArray, i: usize) -> usize
     requires { i < array_cells }
     ensures { (result ≡ slice_index heights.now i) × (result < 65536) }
 {
-    number(heights[i])
+    usize::from(heights[i])
 }
 
 // The number of points.
@@ -118,8 +101,7 @@ pub(crate) fn weight_at(heights: &PointArray, i: usize) -> u64
     requires { i < field_cells }
     ensures { result ≡ (heights_of heights.now).weight i }
 {
-    let k = (WEIGHT_FIELD + i) * 4;
-    four_cells(heights[k], heights[k + 1], heights[k + 2], heights[k + 3])
+    read_value(heights, WEIGHT_FIELD + i)
 }
 
 // The point i may be inside.

@@ -1,5 +1,5 @@
 // Recovering the best choice from the table: a slab's open points are put inside down to the point that it is cut at.
-ghost use Rattle.std.specs.Prelude.{◌≡◌, ◌<◌, length};
+ghost use Rattle.std.specs.Prelude.{◌≡◌, ◌<◌};
 ghost use Rattle.orders.specs.Arrays.{heights_of};
 ghost use Rattle.optimum.specs.Slabs.{open_below};
 ghost use Rattle.optimum.specs.Table.{CutAt, Ready, Kept, Recoverable, flagged_taken, FlaggedDown, FlaggedBelow};
@@ -19,41 +19,36 @@ fn cut_of(heights: &PointArray, table: &mut [u16], slab: Slab) -> usize
         × Kept heights.now table.old table.new }
 {
     value_of(heights, table, slab);
-    read_note(&table[..], place(heights, slab)) - 1
+    read_note(table, place(heights, slab)) - 1
 }
 
 // Sets the flag of the point i, if its rank is `least` or more, and less than `below`.
+#[tactic(auto, unfolding(crate::specs::Table::flagged_taken, crate::specs::Table::taken))]
 fn flag_taken(heights: &PointArray, flags: &mut Flags, i: usize, least: usize, below: usize)
     requires { i < field_cells }
     ensures { flags.new ≡ flagged_taken (heights_of heights.now) least below i flags.old }
 {
     let rank = rank_at(heights, i);
-    if rank < least {
-        return;
+    if least <= rank && rank < below {
+        flags[i] = true;
     }
-    if rank >= below {
-        return;
-    }
-    flags[i] = 1;
 }
 
 // Sets the flags of the open points of a slab whose rank is k or more: those that go inside where it is cut at the rank below.
 fn flag_down(heights: &PointArray, flags: &mut Flags, slab: Slab, k: usize)
-    requires { Ready heights.now slab × CutAt (heights_of heights.now) slab k × (length flags.old ≡ field_cells) }
+    requires { Ready heights.now slab × CutAt (heights_of heights.now) slab k }
     ensures { FlaggedDown (heights_of heights.now) slab k flags.old flags.new }
 {
     let below = open_below(heights, slab);
-    let mut i = slab.lower + 1;
-    while i < slab.upper {
+    for i in slab.lower + 1..slab.upper {
         flag_taken(heights, flags, i, k, below);
-        i += 1;
     }
 }
 
 // Sets the flags of the inside points of a slab.
 #[cycle(cut_slab)]
 pub(crate) fn slab(heights: &PointArray, table: &mut [u16], flags: &mut Flags, whole: Slab)
-    requires { Recoverable heights.now table.old whole × (length flags.old ≡ field_cells) }
+    requires { Recoverable heights.now table.old whole }
     ensures { FlaggedBelow heights.now (open_below (heights_of heights.now) whole)
         whole flags.old flags.new table.old table.new }
 {
@@ -65,8 +60,7 @@ pub(crate) fn slab(heights: &PointArray, table: &mut [u16], flags: &mut Flags, w
 // Cuts a slab at the point of rank k - 1, and sets the flags of the inside points of both parts; where k is 0 there is nothing to cut.
 #[cycle(cut_slab)]
 fn cut(heights: &PointArray, table: &mut [u16], flags: &mut Flags, whole: Slab, k: usize)
-    requires { Recoverable heights.now table.old whole × CutAt (heights_of heights.now) whole k
-        × (length flags.old ≡ field_cells) }
+    requires { Recoverable heights.now table.old whole × CutAt (heights_of heights.now) whole k }
     ensures { FlaggedBelow heights.now k whole flags.old
         flags.new table.old table.new }
 {
@@ -75,16 +69,6 @@ fn cut(heights: &PointArray, table: &mut [u16], flags: &mut Flags, whole: Slab, 
     }
     let p = at_rank(heights, k - 1);
     let over = reach(heights, whole, p);
-    let lower_part = Slab {
-        lower: whole.lower,
-        upper: p,
-        reaching: whole.reaching,
-    };
-    let upper_part = Slab {
-        lower: p,
-        upper: whole.upper,
-        reaching: over,
-    };
-    slab(heights, table, flags, lower_part);
-    slab(heights, table, flags, upper_part);
+    slab(heights, table, flags, whole.lower_part(p));
+    slab(heights, table, flags, whole.upper_part(p, over));
 }

@@ -1,23 +1,21 @@
 // The table, in the workspace: an entry for each slab that was asked for, of four cells for its value and, behind all values, one for its
 // note.
-ghost use Rattle.std.specs.Prelude.{◌≡◌, ◌+◌, ◌*◌, ◌<◌, length};
-ghost use Rattle.recurrence.specs.Recurrence.{between};
+ghost use Rattle.std.specs.Prelude.{◌≡◌, ◌+◌, ◌<◌};
 ghost use Rattle.optimum.specs.Packed.{Packed};
-ghost use Rattle.orders.specs.Words.{value_at, with_value};
 ghost use Rattle.optimum.specs.Entries.{note_at, with_entry};
-ghost use Rattle.optimum.specs.Slabs.{slab_place};
+ghost use Rattle.optimum.specs.Slabs.{slab_has, slab_place, lower_part, upper_part};
 ghost use Rattle.optimum.specs.Table.{Room, Ready, Unnoted};
 ghost use Rattle.optimum.specs.Places.{entries};
 
-use crate::points::{four_cells, number, point_count, tetrahedral, triangular};
+use crate::points::{point_count, tetrahedral, triangular};
+use crate::words::write_value;
 use orders::PointArray;
-use std::num::wrapping_sub_usize;
 
 // Where the notes begin: behind the four cells of each value.
 const NOTES: usize = 26180;
 
 // A slab (a, b, q in specs/): its lower and upper ends, each a boundary or an outside point, and the inside point from below whose
-// label reaches over the lower end, or 0.
+// label reaches over the lower end, or 0: a number like the ends, since a slab's place is a sum of the three.
 #[derive(Clone, Copy)]
 pub(crate) struct Slab {
     pub lower: usize,
@@ -26,24 +24,46 @@ pub(crate) struct Slab {
 }
 
 // What is found of a slab: its value, 0 where it has no choice; and its cut, one more than the rank of the point that it is cut at, or 0
-// where all its open points go inside.
+// where all its open points go inside. Both are numbers as the recurrence's `value` and the table's cells have them, so that a step
+// compares and adds them as they are.
 #[derive(Clone, Copy)]
 pub(crate) struct Found {
     pub value: u64,
     pub cut: usize,
 }
 
-// The point p is strictly between the ends of a slab. One test is enough: the distance from the lower end wraps round to a great
-// number for a point that isn't above it.
-pub(crate) fn between(slab: Slab, p: usize) -> bool
-    requires { slab.lower < slab.upper }
-    ensures { result ≡ between slab.lower p slab.upper }
-{
-    let first = slab.lower + 1;
-    wrapping_sub_usize(p, first) < slab.upper - first
+impl Slab {
+    // The point p is strictly between the ends. One test is enough: the distance from the lower end wraps round to a great number for
+    // a point that isn't above it.
+    pub(crate) fn has(self, p: usize) -> bool
+        requires { self.lower < self.upper }
+        ensures { result ≡ slab_has self p }
+    {
+        let first = self.lower + 1;
+        p.wrapping_sub(first) < self.upper - first
+    }
+
+    // The part below the point p that the slab is cut at,
+    pub(crate) fn lower_part(self, p: usize) -> Slab
+        ensures { result ≡ lower_part self p }
+    {
+        Slab { upper: p, ..self }
+    }
+
+    // and the part above it, where the label of the point `over` reaches over p, or that of none, where it is 0.
+    pub(crate) fn upper_part(self, p: usize, over: usize) -> Slab
+        ensures { result ≡ upper_part self p over }
+    {
+        Slab {
+            lower: p,
+            reaching: over,
+            ..self
+        }
+    }
 }
 
-// The place of a slab.
+// The place of a slab. Here and below the array and the table are two references: the array is only read, and what a contract says of
+// the table alone would have to leave the array out, were they one.
 pub(crate) fn place(heights: &PointArray, slab: Slab) -> usize
     requires { Ready heights.now slab }
     ensures { (result ≡ slab_place slab) × (result < entries) }
@@ -51,36 +71,17 @@ pub(crate) fn place(heights: &PointArray, slab: Slab) -> usize
     tetrahedral(heights, slab.upper + 1) + triangular(heights, slab.lower + 1) + slab.reaching
 }
 
-// The value at a place.
-pub(crate) fn read_value(table: &[u16], place: usize) -> u64
-    requires { place * 4 + 3 < length table.now }
-    ensures { result ≡ value_at table.now place }
-{
-    let k = place * 4;
-    four_cells(table[k], table[k + 1], table[k + 2], table[k + 3])
-}
-
-// Stores a value at a place.
-fn write_value(table: &mut [u16], place: usize, x: u64)
-    requires { place * 4 + 3 < length table.old }
-    ensures { table.new ≡ with_value table.old place x }
-{
-    let k = place * 4;
-    table[k] = (x % 65536) as u16;
-    table[k + 1] = (x / 65536 % 65536) as u16;
-    table[k + 2] = (x / 4294967296 % 65536) as u16;
-    table[k + 3] = (x / 281474976710656) as u16;
-}
-
 // The note at a place: 0 as long as nothing is known of the slab, and then one more than its cut.
+#[tactic(auto, unfolding(crate::specs::Entries::note_at))]
 pub(crate) fn read_note(table: &[u16], place: usize) -> usize
     requires { (place < entries) × Room table.now }
     ensures { (result ≡ note_at table.now place) × (result < 65536) }
 {
-    number(table[NOTES + place])
+    usize::from(table[NOTES + place])
 }
 
 // Stores and notes an entry at a place.
+#[tactic(auto, unfolding(crate::specs::Entries::with_entry))]
 pub(crate) fn write_entry(table: &mut [u16], place: usize, found: Found)
     requires { (place < entries) × Room table.old × (found.cut < 65535) }
     ensures { table.new ≡ with_entry table.old place found.value found.cut }
@@ -95,9 +96,5 @@ pub(crate) fn clear_notes(heights: &PointArray, table: &mut [u16])
     ensures { Unnoted heights.now table.old table.new }
 {
     let end = NOTES + tetrahedral(heights, point_count(heights) + 3);
-    let mut i = NOTES;
-    while i < end {
-        table[i] = 0;
-        i += 1;
-    }
+    table[NOTES..end].fill(0);
 }

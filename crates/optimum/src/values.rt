@@ -1,5 +1,5 @@
 // The value of a slab: 0 where it has no choice, else one more than the weight of a best choice of its open points.
-ghost use Rattle.std.specs.Prelude.{◌≡◌, suc, ◌+◌, ◌*◌, ◌<◌, ◌≤◌, min, ◌&&◌};
+ghost use Rattle.std.specs.Prelude.{◌≡◌, suc, ◌+◌, ◌*◌, ◌<◌, ◌≤◌, ◌&&◌};
 ghost use Rattle.recurrence.specs.Recurrence.{join};
 ghost use Rattle.recurrence.specs.Safe.{unreached};
 ghost use Rattle.orders.specs.Arrays.{heights_of};
@@ -11,44 +11,38 @@ ghost use Rattle.orders.specs.Layout.{field_cells, weight_bound};
 use crate::conflicts::{may_be_inside, reach, reaches_over, rows_differ};
 use crate::limits::label_below;
 use crate::points::{at_rank, rank_at, weight_at};
-use crate::table::{Found, Slab, between, place, read_note, read_value, write_entry};
+use crate::table::{Found, Slab, place, read_note, write_entry};
+use crate::words::read_value;
 use orders::PointArray;
+use std::ops::ControlFlow;
 
-// Where the loop of an entry stands: the best with a point left outside so far; one more than the weight of the points put inside so far;
-// and whether the loop ends here.
+// Where the loop of an entry stands: the best with a point left outside so far; and one more than the weight of the points put inside
+// so far.
 #[derive(Clone, Copy)]
 struct Run {
     best: Found,
     acc: u64,
-    ended: bool,
-}
-
-// The lesser of two numbers.
-fn lesser(i: usize, j: usize) -> usize
-    ensures { result ≡ min i j }
-{
-    if j < i {
-        return j;
-    }
-    i
 }
 
 // The better of two; of equal ones the first.
+#[tactic(auto, unfolding(crate::specs::Table::better_of))]
 fn better(best: Found, other: Found) -> Found
     ensures { result ≡ better_of best other }
 {
     if best.value < other.value {
-        return other;
+        other
+    } else {
+        best
     }
-    best
 }
 
 // The rank below which the points of a slab are open.
+#[tactic(auto, unfolding(crate::specs::Slabs::open_below))]
 pub(crate) fn open_below(heights: &PointArray, slab: Slab) -> usize
     requires { (slab.lower < field_cells) × (slab.upper < field_cells) }
     ensures { result ≡ open_below (heights_of heights.now) slab }
 {
-    lesser(rank_at(heights, slab.lower), rank_at(heights, slab.upper))
+    rank_at(heights, slab.lower).min(rank_at(heights, slab.upper))
 }
 
 // The values of two parts, with the weight put inside so far.
@@ -56,10 +50,7 @@ fn joined(acc: u64, x: u64, y: u64) -> u64
     requires { (1 ≤ acc) × (acc ≤ 64 * weight_bound) × (x ≤ weight_bound) × (y ≤ weight_bound) }
     ensures { result ≡ join acc (join x y) }
 {
-    if x == 0 {
-        return 0;
-    }
-    if y == 0 {
+    if x == 0 || y == 0 {
         return 0;
     }
     acc + (x - 1) + (y - 1)
@@ -75,18 +66,8 @@ fn outside_value(heights: &PointArray, table: &mut [u16], slab: Slab, p: usize, 
         return 0;
     }
     let over = reach(heights, slab, p);
-    let lower_part = Slab {
-        lower: slab.lower,
-        upper: p,
-        reaching: slab.reaching,
-    };
-    let upper_part = Slab {
-        lower: p,
-        upper: slab.upper,
-        reaching: over,
-    };
-    let x = value_of(heights, table, lower_part);
-    let y = value_of(heights, table, upper_part);
+    let x = value_of(heights, table, slab.lower_part(p));
+    let y = value_of(heights, table, slab.upper_part(p, over));
     joined(acc, x, y)
 }
 
@@ -95,15 +76,13 @@ fn unreached(heights: &PointArray, p: usize, b: usize) -> bool
     requires { Packed heights.now × (1 ≤ p) × (p < b) × (b ≤ (heights_of heights.now).n + 1) }
     ensures { result ≡ unreached (heights_of heights.now) p b }
 {
-    let mut y = p + 1;
-    while y < b {
+    for y in p + 1..b {
         if label_below(heights, p, y) {
             return true;
         }
         if reaches_over(heights, y, p) {
             return false;
         }
-        y += 1;
     }
     true
 }
@@ -113,30 +92,33 @@ fn is_safe(heights: &PointArray, p: usize, b: usize, inside: bool) -> bool
     requires { Packed heights.now × (1 ≤ p) × (p < b) × (b ≤ (heights_of heights.now).n + 1) }
     ensures { result ≡ (inside && unreached (heights_of heights.now) p b) }
 {
-    if !inside {
-        return false;
-    }
-    unreached(heights, p, b)
+    inside && unreached(heights, p, b)
 }
 
 // One step of the entry's loop, at rank t: what its point gives outside may be a new best, unless it is safe; inside it adds its weight.
+// Where it may not be inside, the loop ends with the best.
 #[cycle(entry_outside_value_step_value_of)]
-fn step(heights: &PointArray, table: &mut [u16], slab: Slab, t: usize, run: Run) -> Run
+fn step(
+    heights: &PointArray,
+    table: &mut [u16],
+    slab: Slab,
+    t: usize,
+    run: Run,
+) -> ControlFlow<Found, Run>
     requires { Asked heights.now table.old slab × Running (heights_of heights.now) slab (suc t) run }
     ensures { Stepped heights.now slab t result table.old table.new }
 {
     let p = at_rank(heights, t);
-    if !between(slab, p) {
-        return run;
+    if !slab.has(p) {
+        return ControlFlow::Continue(run);
     }
     let so_far = run.best;
     let inside = may_be_inside(heights, slab, p);
     if is_safe(heights, p, slab.upper, inside) {
-        return Run {
+        return ControlFlow::Continue(Run {
             best: so_far,
             acc: run.acc + weight_at(heights, p),
-            ended: false,
-        };
+        });
     }
     let outside = Found {
         value: outside_value(heights, table, slab, p, run.acc),
@@ -144,17 +126,12 @@ fn step(heights: &PointArray, table: &mut [u16], slab: Slab, t: usize, run: Run)
     };
     let best = better(so_far, outside);
     if !inside {
-        return Run {
-            best,
-            acc: run.acc,
-            ended: true,
-        };
+        return ControlFlow::Break(best);
     }
-    Run {
+    ControlFlow::Continue(Run {
         best,
         acc: run.acc + weight_at(heights, p),
-        ended: false,
-    }
+    })
 }
 
 // The entry of a slab, by a loop over the ranks of its open points downwards, which ends at a point that may not be inside. With no point
@@ -168,17 +145,14 @@ fn entry(heights: &PointArray, table: &mut [u16], slab: Slab) -> Found
     if slab.upper - slab.lower < 2 {
         return Found { value: 1, cut: 0 };
     }
-    let mut t = open_below(heights, slab);
     let mut run = Run {
         best: Found { value: 0, cut: 0 },
         acc: 1,
-        ended: false,
     };
-    while t > 0 {
-        t -= 1;
-        run = step(heights, table, slab, t, run);
-        if run.ended {
-            return run.best;
+    for t in (0..open_below(heights, slab)).rev() {
+        match step(heights, table, slab, t, run) {
+            ControlFlow::Continue(next) => run = next,
+            ControlFlow::Break(best) => return best,
         }
     }
     let outside = run.best;
@@ -196,8 +170,8 @@ pub(crate) fn value_of(heights: &PointArray, table: &mut [u16], slab: Slab) -> u
     ensures { Valued heights.now slab result table.old table.new }
 {
     let at = place(heights, slab);
-    if read_note(&table[..], at) != 0 {
-        return read_value(&table[..], at);
+    if read_note(table, at) != 0 {
+        return read_value(table, at);
     }
     let found = entry(heights, table, slab);
     write_entry(table, at, found);

@@ -12,16 +12,16 @@ pub solve-value-requires : goal.solve-value-requires
 solve-value-requires c = (
   (prepared c.requires.1.1 c.write_limits.ensures).packed,
   c.requires.2,
-  rw c.none_flagged-flags.ensures none-blank,
+  none-blank,
 )
 
 -- the workspace is left zero
 zero : (c : After-clear) → c.clear.new.workspace ≡ replicate (length c.args.workspace.now) 0
-zero c = c.clear.ensures ∙ ap (λ (n : ℕ). replicate n 0) c.solve-value.ensures.2
+zero c = c.clear.ensures ∙ ap (λ (n : ℕ). replicate n 0) c.solve-value.ensures.1
 
 pub returns-then-value-eq0 : goal.returns-then-value-eq0
 returns-then-value-eq0 c = (
-  λ rank o. none-chosen rank c.args.sheet.now _ c.nothing_chosen.ensures
+  λ rank o. none-chosen rank c.args.sheet.now
       (none-valid rank _ _ _ (accepted _ c.requires.0) (prepared o c.write_limits.ensures) c.solve-value.ensures.0
       c.if-value-eq0.true),
   zero (goal.at.returns-then-value-eq0 c).After-clear,

@@ -15,20 +15,17 @@ returns-then-best-eq0 c =
     let p = c.requires in
     let valued = c.value_of-best.ensures in (
       all_none p.0 _ c.point_count.ensures.0 _ _ valued.is c.if-best-eq0.true,
-      p.2.long,
       valued.kept.same ∙ c.clear_notes.ensures.same,
     )
 
 pub slab-requires : goal.slab-requires
 slab-requires c =
     let p = c.requires in
-    let valued = c.value_of-best.ensures in (
-      record {
-        asked = record { ready = all-ready p.0 _ c.point_count.ensures.0; memo = valued.kept.memo };
-        some = omega (arith, valued.is, c.if-best-eq0.false);
-      },
-      p.2.long,
-    )
+    let valued = c.value_of-best.ensures in
+    record {
+      asked = record { ready = all-ready p.0 _ c.point_count.ensures.0; memo = valued.kept.memo };
+      some = omega (arith, valued.is, c.if-best-eq0.false);
+    }
 
 pub returns : goal.returns
 returns c =
@@ -36,6 +33,5 @@ returns c =
     let valued = c.value_of-best.ensures in
     let flagged = c.slab.ensures in (
       all-solved p.0 _ c.point_count.ensures.0 _ _ _ p.2 flagged.flagged valued.is,
-      flagged.flagged.same ∙ p.2.long,
       flagged.kept.same ∙ (valued.kept.same ∙ c.clear_notes.ensures.same),
     )

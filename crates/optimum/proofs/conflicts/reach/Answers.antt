@@ -2,14 +2,10 @@
 use Rattle.optimum.proofs.ConflictsLaws.{reach-newer, reach-nobody, reach-older, reach-none}
 use Rattle.std.proofs.Common.{sym, ◌∙◌}
 use Rattle.optimum.proofs.conflicts.reach.Goals as goal
+use Rattle.optimum.proofs.conflicts.reach.Goals.{else-slab-ne0-via-then-slab-ne0+else-reaches_over, else-slab-ne0-via-else-slab-ne0}
 
 pub returns-then-top-slab : goal.returns-then-top-slab
 returns-then-top-slab c = reach-newer _ _ _ _ c.requires.1 _ c.top_at-top.ensures c.if-top-slab.true
-
-pub returns-then-slab-eq0 : goal.returns-then-slab-eq0
-returns-then-slab-eq0 c =
-    reach-nobody _ _ _ _ c.requires.1 _
-    c.top_at-top.ensures c.if-top-slab.false c.if-slab-eq0.true
 
 pub returns-then-reaches_over : goal.returns-then-reaches_over
 returns-then-reaches_over c =
@@ -19,6 +15,12 @@ returns-then-reaches_over c =
 
 pub returns : goal.returns
 returns c =
-    reach-none _ _ _ _ c.requires.1 _
-    c.top_at-top.ensures c.if-top-slab.false
-    (sym c.reaches_over.ensures ∙ c.if-reaches_over.false)
+    elim c.else-slab-ne0.branch [
+      | else-slab-ne0-via-then-slab-ne0+else-reaches_over w ↦
+          reach-none _ _ _ _ c.requires.1 _
+          c.top_at-top.ensures c.if-top-slab.false
+          (sym w.reaches_over.ensures ∙ w.if-reaches_over.false)
+      | else-slab-ne0-via-else-slab-ne0 w ↦
+          reach-nobody _ _ _ _ c.requires.1 _
+          c.top_at-top.ensures c.if-top-slab.false w.if-slab-ne0.false
+    ]

@@ -1,22 +1,15 @@
 -- `optimum::limits::top` meets its contract: none that reaches over i is more than j. Assumes nothing.
-use Rattle.std.proofs.Common.{◌≡◌, sym, ◌∙◌, arith}
+use Rattle.std.proofs.Common.{◌≡◌, ◌-◌, sym, ◌∙◌, arith}
 use Rattle.optimum.proofs.LimitsLaws.{top_start, top-ends, top-found, top-next, top-none}
 use Rattle.optimum.proofs.limits.top.Goals as goal
 
 pub loop-j-init : goal.loop-j-init
-loop-j-init c = (
-  omega (arith, c.requires.0.few, c.requires.1.high),
-  omega (arith, c.requires.1.low),
-  omega (arith, c.column_at-column.ensures.0),
-  omega (arith, c.column_at-column.ensures.0, c.label_width.ensures.0),
-  omega (arith, c.column_at-column.ensures.1),
-  top_start _ _,
-)
+loop-j-init c = top_start _ _
 
 pub returns-then-label_below : goal.returns-then-label_below
 returns-then-label_below c = (
   top-ends c.requires.0.sorted _ c.requires.1
-      (omega arith) (omega arith) c.loop-j.invariant.5 (sym c.label_below.ensures ∙ c.if-label_below.true),
+      (omega arith) (omega arith) c.loop-j.invariant (sym c.label_below.ensures ∙ c.if-label_below.true),
   omega arith,
 )
 
@@ -24,27 +17,21 @@ pub returns-then-column_within : goal.returns-then-column_within
 returns-then-column_within c = (
   top-found c.requires.0.sorted
       _ c.requires.1
-      (omega arith) (omega arith) c.loop-j.invariant.5
+      (omega arith) (omega arith) c.loop-j.invariant
       (sym c.label_below.ensures ∙ c.if-label_below.false)
-      c.loop-j.invariant.2 c.loop-j.invariant.3
+      (omega (arith, c.column_at-column.ensures)) (omega (arith, c.column_at-column.ensures, c.label_width.ensures))
       (sym c.column_within.ensures ∙ c.if-column_within.true),
-  omega arith,
+  omega (arith, c.requires.0.few, c.requires.1.high),
 )
 
 pub loop-j-preserved : goal.loop-j-preserved
-loop-j-preserved c = (
-  omega arith,
-  omega arith,
-  c.loop-j.invariant.2,
-  c.loop-j.invariant.3,
-  c.loop-j.invariant.4,
-  top-next c.requires.0.sorted
-      _ c.requires.1
-      (omega arith) (omega arith) c.loop-j.invariant.5
-      (sym c.label_below.ensures ∙ c.if-label_below.false)
-      c.loop-j.invariant.2 c.loop-j.invariant.3
-      (sym c.column_within.ensures ∙ c.if-column_within.false),
-)
+loop-j-preserved c =
+    top-next c.requires.0.sorted
+    _ c.requires.1
+    (omega arith) (omega arith) c.loop-j.invariant
+    (sym c.label_below.ensures ∙ c.if-label_below.false)
+    (omega (arith, c.column_at-column.ensures)) (omega (arith, c.column_at-column.ensures, c.label_width.ensures))
+    (sym c.column_within.ensures ∙ c.if-column_within.false)
 
 pub returns : goal.returns
-returns c = let e : c.loop-j.j ≡ 0 = omega arith in (top-none _ _ (rw e at c.loop-j.invariant.5), omega arith)
+returns c = let e : c.loop-j.j - 1 ≡ 0 = omega arith in (top-none _ _ (rw e at c.loop-j.invariant), omega arith)

@@ -13,13 +13,13 @@ use Rattle.optimum.proofs.limits.write_limits.Goals.{At-loop-k, In-loop-k}
 -- the points are still in order
 points : (c : At-loop-k)
     → SameHeights (heights_of c.args.heights.now) (heights_of c.loop-k.heights)
-points c = kept_same c.loop-k.invariant.3.kept c.requires.few
+points c = kept_same c.loop-k.invariant.kept c.requires.few
 
 order : (c : At-loop-k) → InOrder c.loop-k.heights
-order c = kept-order c.loop-k.invariant.3.kept c.requires
+order c = kept-order c.loop-k.invariant.kept c.requires
 
 next : (c : In-loop-k) → Point (heights_of c.loop-k.heights) (c.loop-k.k + 1)
-next c = record { low = omega arith; high = omega (arith, (points c.before).n, c.loop-k.invariant.2) }
+next c = record { low = omega arith; high = omega (arith, (points c.before).n) }
 
 pub top-topmost-requires : goal.top-topmost-requires
 top-topmost-requires c = (order (goal.at.top-topmost-requires c).At-loop-k, next (goal.at.top-topmost-requires c).In-loop-k)
@@ -30,17 +30,13 @@ high-least-requires c = (order (goal.at.high-least-requires c).At-loop-k, next (
 pub loop-k-preserved : goal.loop-k-preserved
 loop-k-preserved c =
     let l = c.loop-k in
-    let u : l.k + 1 ≤ (heights_of c.args.heights.now).n = omega (arith, l.invariant.2) in (
-      omega arith,
-      omega arith,
-      l.invariant.2,
-      limited-more (omega arith) (order (goal.at.loop-k-preserved c).At-loop-k).long l.invariant.3 _ _
-          (c.top-topmost.ensures.0 ∙ top-same (points (goal.at.loop-k-preserved c).At-loop-k) (l.k + 1) u)
-          (c.high-least.ensures.0 ∙ high_same (points (goal.at.loop-k-preserved c).At-loop-k) (l.k + 1) u),
-    )
+    let u : l.k + 1 ≤ (heights_of c.args.heights.now).n = omega arith in
+    limited-more (omega (arith, c.requires.few)) (order (goal.at.loop-k-preserved c).At-loop-k).long l.invariant _ _
+    (c.top-topmost.ensures.0 ∙ top-same (points (goal.at.loop-k-preserved c).At-loop-k) (l.k + 1) u)
+    (c.high-least.ensures.0 ∙ high_same (points (goal.at.loop-k-preserved c).At-loop-k) (l.k + 1) u)
 
 pub returns : goal.returns
 returns c =
     let l = c.loop-k in
-    let e : l.k ≡ (heights_of c.args.heights.now).n = omega (arith, l.invariant.2) in
-    limited c.requires (rw e at l.invariant.3)
+    let e : l.k ≡ (heights_of c.args.heights.now).n = omega arith in
+    limited c.requires (rw e at l.invariant)

@@ -1,13 +1,8 @@
-use Rattle.std.proofs.Common.{◌≡◌, ◌-◌, ◌≤◌, length}
+use Rattle.std.proofs.Common.{◌≡◌}
 use Rattle.format.specs.Plate.{inside_below}
-use Rattle.format.specs.Written.{written}
+use Rattle.optimum.specs.Choosing.{listed}
 use Rattle.optimum.specs.Split.{flagged}
 use Rattle.optimum.proofs.lists.list_inside.Given as goal
 
-abbrev pub invariant-loop-next : goal.invariant-loop-next
-invariant-loop-next l =
-    (l.next ≤ l.n) × (l.count ≤ l.next) × (length l.list ≡ 32) × (l.count ≡ length (inside_below (flagged l.choice) l.next))
-    × (l.list ≡ written l.initial.list 0 (inside_below (flagged l.choice) l.next))
-
-abbrev pub decreases-loop-next : goal.decreases-loop-next
-decreases-loop-next l = l.n - l.next
+abbrev pub invariant-loop-position : goal.invariant-loop-position
+invariant-loop-position l = l.inside ≡ listed (inside_below (flagged l.choice) l.position)

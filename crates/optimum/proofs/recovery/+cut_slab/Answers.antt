@@ -1,6 +1,6 @@
 -- `optimum::recovery::slab` and `cut` meet their contracts: what lies between a slab's ends falls, and the flags are the recovered
 -- choice's. Assumes nothing.
-use Rattle.std.proofs.Common.{◌∙◌, arith}
+use Rattle.std.proofs.Common.{arith}
 use Rattle.optimum.proofs.Memo.{kept_refl, kept_trans}
 use Rattle.optimum.proofs.Steps.{open-below-few, open-candidate}
 use Rattle.optimum.proofs.RecoveryLaws.{flagged-zero, cut_opened, cut_low, cut_high, cut-flagged}
@@ -25,18 +25,16 @@ pub cut-slab-requires : goal.cut-slab-requires
 cut-slab-requires t c =
     let p = c.requires in
     let o = (cut_opened p.0 p.1 c.if-k-eq0.false c.at_rank-p.ensures.0).0 in
-    (omega (arith, o.low, o.high, c.decreases), (cut_low p.0 p.1 c.if-k-eq0.false c.at_rank-p.ensures.0, p.2))
+    rw c.lower_part.ensures
+    (omega (arith, o.low, o.high, c.decreases), cut_low p.0 p.1 c.if-k-eq0.false c.at_rank-p.ensures.0)
 
 pub cut-slab-requires-2 : goal.cut-slab-requires-2
 cut-slab-requires-2 t c =
     let p = c.requires in
     let o = (cut_opened p.0 p.1 c.if-k-eq0.false c.at_rank-p.ensures.0).0 in
-    let below = c.slab.ensures in (
+    rw c.upper_part.ensures (
       omega (arith, o.low, o.high, c.decreases),
-      (
-        cut_high p.0 p.1 c.if-k-eq0.false c.at_rank-p.ensures.0 below.kept.memo _ c.reach-over.ensures,
-        below.flagged.same ∙ p.2,
-      ),
+      cut_high p.0 p.1 c.if-k-eq0.false c.at_rank-p.ensures.0 c.slab.ensures.kept.memo _ c.reach-over.ensures,
     )
 
 pub cut-returns : goal.cut-returns
@@ -44,6 +42,6 @@ cut-returns t c =
     let p = c.requires in record {
       flagged =
           cut-flagged p.0 p.1 c.if-k-eq0.false c.at_rank-p.ensures.0 _ _ _ _
-          c.reach-over.ensures c.slab.ensures.flagged c.slab-2.ensures.flagged;
+          c.reach-over.ensures (rw c.lower_part.ensures at c.slab.ensures.flagged) (rw c.upper_part.ensures at c.slab-2.ensures.flagged);
       kept = kept_trans c.slab.ensures.kept c.slab-2.ensures.kept;
     }

@@ -1,10 +1,6 @@
-use Rattle.std.proofs.Common.{◌-◌}
 use Rattle.orders.specs.Arrays.{heights_of}
 use Rattle.optimum.specs.Table.{Taking}
 use Rattle.optimum.proofs.recovery.flag_down.Given as goal
 
 abbrev pub invariant-loop-i : goal.invariant-loop-i
-invariant-loop-i l = Taking (heights_of l.heights) l.slab l.k l.i l.initial.flags l.flags
-
-abbrev pub decreases-loop-i : goal.decreases-loop-i
-decreases-loop-i l = l.slab.upper - l.i
+invariant-loop-i l = Taking (heights_of l.heights) l.fn.slab l.k l.i l.initial.flags l.flags

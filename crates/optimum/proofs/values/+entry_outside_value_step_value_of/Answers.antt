@@ -1,6 +1,6 @@
 -- `optimum::values::value_of` and the three functions that it computes a value by meet their contracts: what lies between a slab's ends
 -- falls, and what is noted stays right. Assumes nothing.
-use Rattle.std.proofs.Common.{◌≡◌, ℕ, suc, List, Bool, true, not, sym, ap, refl, ◌∙◌, arith}
+use Rattle.std.proofs.Common.{◌≡◌, ℕ, suc, List, Bool, true, sym, refl, ◌∙◌, arith}
 use Rattle.orders.specs.Arrays.{heights_of}
 use Rattle.optimum.specs.declared.table.Slab.{Slab}
 use Rattle.optimum.specs.declared.values.Run.{Run}
@@ -41,7 +41,8 @@ outside_value-reach-over-requires t c =
 
 pub outside_value-value_of-y-requires : goal.outside_value-value_of-y-requires
 outside_value-value_of-y-requires t c =
-    let o = c.requires.opened in (
+    let o = c.requires.opened in
+    rw c.upper_part.ensures (
       omega (arith, o.low, o.high, c.decreases),
       record { ready = ready-high o _ c.reach-over.ensures; memo = c.value_of-x.ensures.kept.memo },
     )
@@ -51,8 +52,8 @@ outside_value-joined-requires t c =
     let o = c.requires.opened in (
       c.requires.some,
       c.requires.room,
-      low_small o _ (low_value o _ c.value_of-x.ensures.is),
-      high_small o _ (high_value o _ _ c.value_of-y.ensures.is c.reach-over.ensures),
+      low_small o _ (low_value o _ (rw c.lower_part.ensures at c.value_of-x.ensures.is)),
+      high_small o _ (high_value o _ _ (rw c.upper_part.ensures at c.value_of-y.ensures.is) c.reach-over.ensures),
     )
 
 pub outside_value-returns : goal.outside_value-returns
@@ -61,8 +62,8 @@ outside_value-returns t c =
     let differ = sym c.rows_differ.ensures ∙ c.if-not-rows_differ.false in
     record {
       is =
-          out-cut o _ _ _ _ differ c.joined.ensures (low_value o _ c.value_of-x.ensures.is)
-          (high_value o _ _ c.value_of-y.ensures.is c.reach-over.ensures);
+          out-cut o _ _ _ _ differ c.joined.ensures (low_value o _ (rw c.lower_part.ensures at c.value_of-x.ensures.is))
+          (high_value o _ _ (rw c.upper_part.ensures at c.value_of-y.ensures.is) c.reach-over.ensures);
       kept = kept_trans c.value_of-x.ensures.kept c.value_of-y.ensures.kept;
     }
 
@@ -74,65 +75,65 @@ here : {s table : List ℕ} {x : Slab} {t : ℕ} {r : Run} → Asked s table x �
     → Opened s x p × ((heights_of s).rank p ≡ t)
 here {t = t} k p e h b = opened k.0.ready t p (omega (arith, k.1.below)) e (sym h ∙ b)
 
-pub step-returns-then-not-between : goal.step-returns-then-not-between
-step-returns-then-not-between t c =
-    step_skip _ c.at_rank-p.ensures.0 (sym c.between.ensures ∙ c.if-not-between.true)
+pub step-returns-then-not-has : goal.step-returns-then-not-has
+step-returns-then-not-has t c =
+    step_skip _ c.at_rank-p.ensures.0 (sym c.has.ensures ∙ c.if-not-has.true)
     c.requires.1 (kept_refl c.requires.0.memo)
 
 pub step-may_be_inside-inside-requires : goal.step-may_be_inside-inside-requires
 step-may_be_inside-inside-requires t c =
-    let o = (here c.requires _ c.at_rank-p.ensures.0 c.between.ensures c.if-not-between.false).0 in
+    let o = (here c.requires _ c.at_rank-p.ensures.0 c.has.ensures c.if-not-has.false).0 in
     (o.ready.packed, open-candidate o)
 
 pub step-is_safe-requires : goal.step-is_safe-requires
 step-is_safe-requires t c =
-    let o = (here c.requires _ c.at_rank-p.ensures.0 c.between.ensures c.if-not-between.false).0 in
+    let o = (here c.requires _ c.at_rank-p.ensures.0 c.has.ensures c.if-not-has.false).0 in
     (o.ready.packed, o.point.low, o.high, omega (arith, o.ready.proper.upper))
 
 pub step-weight_at-requires : goal.step-weight_at-requires
 step-weight_at-requires t c =
-    open-small (here c.requires _ c.at_rank-p.ensures.0 c.between.ensures c.if-not-between.false).0
+    open-small (here c.requires _ c.at_rank-p.ensures.0 c.has.ensures c.if-not-has.false).0
 
 pub step-overflow_add-result : goal.step-overflow_add-result
 step-overflow_add-result t c =
-    let o = (here c.requires _ c.at_rank-p.ensures.0 c.between.ensures c.if-not-between.false).0 in
+    let o = (here c.requires _ c.at_rank-p.ensures.0 c.has.ensures c.if-not-has.false).0 in
     record { fits = omega (arith, open-weight o c.weight_at.result c.weight_at.ensures, c.requires.1.room) }
 
 pub step-returns-then-is_safe : goal.step-returns-then-is_safe
 step-returns-then-is_safe t c =
-    let h = here c.requires _ c.at_rank-p.ensures.0 c.between.ensures c.if-not-between.false in
+    let h = here c.requires _ c.at_rank-p.ensures.0 c.has.ensures c.if-not-has.false in
     step-safe h c.requires.1 (kept_refl c.requires.0.memo) _ c.may_be_inside-inside.ensures _
     c.is_safe.ensures c.if-is_safe.true _ c.weight_at.ensures
 
 pub step-outside_value-requires : goal.step-outside_value-requires
 step-outside_value-requires t c =
-    let o = (here c.requires _ c.at_rank-p.ensures.0 c.between.ensures c.if-not-between.false).0 in (
+    let o = (here c.requires _ c.at_rank-p.ensures.0 c.has.ensures c.if-not-has.false).0 in (
       omega (arith, c.decreases),
       record { opened = o; memo = c.requires.0.memo; some = c.requires.1.some; room = omega (arith, c.requires.1.room) },
     )
 
 pub step-returns-then-not-inside : goal.step-returns-then-not-inside
 step-returns-then-not-inside t c =
-    let h = here c.requires _ c.at_rank-p.ensures.0 c.between.ensures c.if-not-between.false in
+    let h = here c.requires _ c.at_rank-p.ensures.0 c.has.ensures c.if-not-has.false in
     let out = c.outside_value.ensures in
     step-stop h c.requires.1 out.kept _ c.may_be_inside-inside.ensures _ out.is
-    refl _ c.better-best.ensures _ (ap not c.if-not-inside.true)
+    refl _ c.better-best.ensures c.if-not-inside.true
 
 pub step-weight_at-requires-2 : goal.step-weight_at-requires-2
 step-weight_at-requires-2 t c =
-    open-small (here c.requires _ c.at_rank-p.ensures.0 c.between.ensures c.if-not-between.false).0
+    open-small (here c.requires _ c.at_rank-p.ensures.0 c.has.ensures c.if-not-has.false).0
 
 pub step-overflow_add-result-2 : goal.step-overflow_add-result-2
 step-overflow_add-result-2 t c =
-    let o = (here c.requires _ c.at_rank-p.ensures.0 c.between.ensures c.if-not-between.false).0 in
+    let o = (here c.requires _ c.at_rank-p.ensures.0 c.has.ensures c.if-not-has.false).0 in
     record { fits = omega (arith, open-weight o c.weight_at-2.result c.weight_at-2.ensures, c.requires.1.room) }
 
 pub step-returns : goal.step-returns
 step-returns t c =
-    let h = here c.requires _ c.at_rank-p.ensures.0 c.between.ensures c.if-not-between.false in
+    let h = here c.requires _ c.at_rank-p.ensures.0 c.has.ensures c.if-not-has.false in
     let out = c.outside_value.ensures in
     step-on h c.requires.1 out.kept _ c.may_be_inside-inside.ensures _ out.is refl _
-    c.better-best.ensures _ (ap not c.if-not-inside.false) c.weight_at-2.ensures
+    c.better-best.ensures _ c.if-not-inside.false c.weight_at-2.ensures
 
 -- THE VALUE
 

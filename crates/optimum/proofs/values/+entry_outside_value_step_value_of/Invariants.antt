@@ -18,6 +18,3 @@ decreases-value_of l = (l.slab.upper - l.slab.lower) * 4 + 3
 
 abbrev pub invariant-entry-loop-t : goal.invariant-entry-loop-t
 invariant-entry-loop-t l = Running (heights_of l.heights) l.slab l.t l.run × Kept l.heights l.initial.table l.table
-
-abbrev pub decreases-entry-loop-t : goal.decreases-entry-loop-t
-decreases-entry-loop-t l = l.t

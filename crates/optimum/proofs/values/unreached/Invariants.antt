@@ -1,10 +1,6 @@
-use Rattle.std.proofs.Common.{◌-◌}
 use Rattle.orders.specs.Arrays.{heights_of}
 use Rattle.optimum.specs.Conflicts.{Climbing}
 use Rattle.optimum.proofs.values.unreached.Given as goal
 
 abbrev pub invariant-loop-y : goal.invariant-loop-y
 invariant-loop-y l = Climbing (heights_of l.heights) l.p l.b l.y
-
-abbrev pub decreases-loop-y : goal.decreases-loop-y
-decreases-loop-y l = l.b - l.y

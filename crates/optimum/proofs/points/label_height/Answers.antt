@@ -1,8 +1,0 @@
--- `optimum::points::label_height` meets its contract: the cell is the one that `heights_of` reads. Assumes nothing.
-use Rattle.std.proofs.Common.{rules}
-use Rattle.orders.specs.Arrays.{heights_of}
-use Rattle.optimum.proofs.points.label_height.Goals as goal
-
-pub returns : goal.returns
-unfolding heights_of
-returns c = search rules

@@ -1,8 +1,0 @@
--- `optimum::points::rank_at` meets its contract: the cell is the one that `heights_of` reads. Assumes nothing.
-use Rattle.std.proofs.Common.{rules}
-use Rattle.orders.specs.Arrays.{heights_of}
-use Rattle.optimum.proofs.points.rank_at.Goals as goal
-
-pub returns : goal.returns
-unfolding heights_of
-returns c = search rules
