@@ -1,7 +1,6 @@
 -- DEMAND 2, PROVED: `demand-two` says of any bytes that are read, and of any plate that is made, what specs/DemandTwo.antt claims.
 -- Assumes nothing.
-use Rattle.std.specs.Prelude.{List, ℕ, take}
-use Rattle.std.proofs.Math.Option.{Option}
+use Rattle.std.specs.Prelude.{List, ℕ, take, Option, Ok}
 use Rattle.labeling.specs.Marks.{Valid}
 use Rattle.format.specs.Sheet.{points_of}
 use Rattle.format.specs.Plate.{best_choice_of, best_plate}
@@ -10,10 +9,9 @@ use Rattle.plate_reader.specs.DemandTwoReader.{PlateOfChoice, ReadRight}
 use Rattle.plate_reader.proofs.DemandTwoReader.{demand-two-reader}
 use Rattle.plate_maker.specs.Making.{Making}
 use Rattle.plate_maker.proofs.MakingLaws.{made-accepted, made-preferred, made-start}
-use Rattle.plate_maker.specs.declared.MakeAnswer.TheVariants.{Made}
 use Rattle.plate_maker.specs.DemandTwo.{MadeRight, DemandTwo}
 
-made-right : (s : List ℕ) (r : Option (List ℕ)) (o w o' w' : List ℕ) (k : ℕ) → Making s r o w (Made k) o' w' → MadeRight s (take k o')
+made-right : (s : List ℕ) (r : Option (List ℕ)) (o w o' w' : List ℕ) (k : ℕ) → Making s r o w (Ok k) o' w' → MadeRight s (take k o')
 unfolding best_plate
 made-right s r o w o' w' k m =
     let v : Valid (points_of s) (best_choice_of s r) = (made-preferred m).best.valid in

@@ -1,8 +1,7 @@
 -- The pairs of the outside section, written one by one; and the plate, section by section. Assumes nothing.
-use Rattle.std.specs.Prelude.{◌≡◌, refl, List, [], ◌∷◌, ◌++◌, ℕ, ◌+◌, ◌*◌, ◌≤◌, ◌<◌, eqb, length, set, drop}
-use Rattle.std.proofs.Common.{sym, ◌∙◌, ap, append_assoc, append-nil, zero-add, arith, ne_eqb, length-append}
+use Rattle.std.specs.Prelude.{◌≡◌, refl, Option, None, Some, MatchOption, List, [], ◌∷◌, ◌++◌, ℕ, ◌+◌, ◌*◌, ◌≤◌, ◌<◌, length, set, drop}
+use Rattle.std.proofs.Common.{sym, ◌∙◌, ap, append_assoc, append-nil, zero-add, arith, length-append}
 use Rattle.labeling.specs.Points.{Points, placed_from, placed}
-use Rattle.labeling.proofs.Decide.{decide}
 use Rattle.labeling.proofs.Margin.{next-most}
 use Rattle.format.specs.Sheet.{points_of}
 use Rattle.format.specs.Plate.{pairs}
@@ -10,45 +9,54 @@ use Rattle.format.proofs.PlateLength.{placed-length, pairs-length}
 use Rattle.format.specs.Written.{written}
 use Rattle.format.proofs.Written.{written_none, written-more, written_twice, written-first}
 use Rattle.plate_maker.specs.Writing.{section_of, plate_of_lists, margin_after, placed_after, SoFar}
+use Rattle.plate_maker.specs.declared.writing.Pair.{Pair}
 
 -- MARGIN COLUMNS
 
-pub placed_first : (P : Points) (j k : ℕ) (l : List ℕ) → placed_after P 0 j k l ≡ placed P l
+pub placed_first : (P : Points) (l : List ℕ) → placed_after P None l ≡ placed P l
 unfolding placed_after margin_after placed
-placed_first P j k [] = refl
-placed_first P j k (i ∷ l) = refl
+placed_first P [] = refl
+placed_first P (i ∷ l) = refl
 
-pub placed-next : (P : Points) (count j k i : ℕ) (l : List ℕ)
-    → placed_after P count j k (i ∷ l)
-    ≡ record { position = i; margin = margin_after P count j k i } ∷ placed_after P (count + 1) i (margin_after P count j k i) l
+pub placed-next : (P : Points) (last : Option Pair) (i : ℕ) (l : List ℕ)
+    → placed_after P last (i ∷ l)
+    ≡ record { position = i; margin = margin_after P last i } ∷ placed_after P (Some (record { position = i; margin = margin_after P last i })) l
 unfolding placed_after margin_after placed_from
-placed-next P count j k i [] = refl
-placed-next P count j k i (x ∷ l) = rw (ne_eqb (count + 1) 0 (λ e. omega arith))
+placed-next P last i [] = refl
+placed-next P last i (x ∷ l) = refl
 
 -- a margin column is at most the number of outside points before it
-pub margin-small : (P : Points) (count j k i : ℕ) → k ≤ count → margin_after P count j k i ≤ count + 1
+pub margin-small : (P : Points) (count : ℕ) (last : Option Pair) (i : ℕ) → MatchOption last Unit (λ p. p.margin ≤ count)
+    → margin_after P last i ≤ count + 1
 unfolding margin_after
-margin-small P count j k i h = decide (eqb count 0) (λ e. rw e (omega arith)) (λ e. rw e (omega (arith, next-most P j k i)))
+margin-small P count None i h = omega arith
+margin-small P count (Some p) i h = omega (arith, h, next-most P p.position p.margin i)
+
+-- so it fits in a byte
+pub last-small : (count : ℕ) (last : Option Pair) → MatchOption last Unit (λ p. p.margin ≤ count) → count < 255
+    → MatchOption last Unit (λ p. p.margin < 255)
+last-small count None h l = tt
+last-small count (Some p) h l = omega (arith, h)
 
 -- PAIR BY PAIR
 
-pub so-far-none : (P : Points) (d : List ℕ) (at j : ℕ) (l : List ℕ) → SoFar P (pairs (placed P l)) d at (length l) l 0 j 0 d
-so-far-none P d at j l = record {
+pub so-far-none : (P : Points) (d : List ℕ) (at : ℕ) (l : List ℕ) → SoFar P (pairs (placed P l)) d at (length l) l 0 None d
+so-far-none P d at l = record {
   done = [];
   is = written_none d at;
   twice = omega arith;
-  rest = ap pairs (placed_first P j 0 l);
+  rest = ap pairs (placed_first P l);
   total = omega arith;
-  small = omega arith;
+  small = tt;
 }
 
-pub so_far_more : (P : Points) (whole d : List ℕ) (at all i : ℕ) (left : List ℕ) (count j k : ℕ) (output : List ℕ)
-    → at + 2 * all ≤ length d → SoFar P whole d at all (i ∷ left) count j k output
-    → SoFar P whole d at all left (count + 1) i (margin_after P count j k i)
-    (set (set output (at + 2 * count) i) (at + 2 * count + 1) (margin_after P count j k i))
+pub so_far_more : (P : Points) (whole d : List ℕ) (at all i : ℕ) (left : List ℕ) (count : ℕ) (last : Option Pair) (output : List ℕ)
+    → at + 2 * all ≤ length d → SoFar P whole d at all (i ∷ left) count last output
+    → SoFar P whole d at all left (count + 1) (Some (record { position = i; margin = margin_after P last i }))
+    (set (set output (at + 2 * count) i) (at + 2 * count + 1) (margin_after P last i))
 unfolding pairs
-so_far_more P whole d at all i left count j k output h f =
-    let m = margin_after P count j k i in
+so_far_more P whole d at all i left count last output h f =
+    let m = margin_after P last i in
     let one : at + 2 * count ≡ at + length f.done = omega (arith, f.twice) in
     let room : at + 2 * count + 1 < length d = omega (arith, f.total) in
     let two : at + 2 * count + 1 ≡ at + length (f.done ++ i ∷ []) = omega (arith, f.twice, length-append f.done (i ∷ [])) in
@@ -56,15 +64,15 @@ so_far_more P whole d at all i left count j k output h f =
       done = f.done ++ i ∷ [] ++ m ∷ [];
       is = rw (f.is, two, one, written-more d at f.done i (omega arith), written-more d at (f.done ++ i ∷ []) m (omega arith));
       twice = omega (arith, f.twice, length-append (f.done ++ i ∷ []) (m ∷ []), length-append f.done (i ∷ []));
-      rest = simp append_assoc (rw (placed-next P count j k i left) at f.rest);
+      rest = simp append_assoc (rw (placed-next P last i left) at f.rest);
       total = omega (arith, f.total);
-      small = margin-small P count j k i f.small;
+      small = margin-small P count last i f.small;
     }
 
-pub so-far-whole : (P : Points) (whole d : List ℕ) (at all count j k : ℕ) (output : List ℕ)
-    → SoFar P whole d at all [] count j k output → (output ≡ written d at whole) × (count ≡ all)
+pub so-far-whole : (P : Points) (whole d : List ℕ) (at all count : ℕ) (last : Option Pair) (output : List ℕ)
+    → SoFar P whole d at all [] count last output → (output ≡ written d at whole) × (count ≡ all)
 unfolding placed_after pairs
-so-far-whole P whole d at all count j k output f =
+so-far-whole P whole d at all count last output f =
     let e : f.done ≡ whole = sym (append-nil f.done) ∙ f.rest in
     (f.is ∙ ap (written d at) e, omega (arith, f.total))
 

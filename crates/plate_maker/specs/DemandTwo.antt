@@ -2,8 +2,7 @@
 -- margin included. The plate reader accepts just the plates that meet this with the margin columns of document 01, and reads each made
 -- plate back to the same split." Document 02 (a) also asks "that no inside label leaves the map": Valid says both. The margin
 -- columns are those of document 02 (b). Assumes nothing.
-use Rattle.std.specs.Prelude.{◌≡◌, List, ℕ, take}
-use Rattle.std.proofs.Math.Option.{Option}
+use Rattle.std.specs.Prelude.{◌≡◌, List, ℕ, take, Option, Ok}
 use Rattle.labeling.specs.Points.{Choice}
 use Rattle.labeling.specs.Marks.{Valid}
 use Rattle.format.specs.Sheet.{point_count, points_of}
@@ -11,7 +10,6 @@ use Rattle.format.specs.Plate.{inside_below, plate_of}
 use Rattle.plate_reader.specs.PlateQuestions.{plate_no, handed_back}
 use Rattle.plate_reader.specs.DemandTwoReader.{ReadRight}
 use Rattle.plate_maker.specs.Making.{Making}
-use Rattle.plate_maker.specs.declared.MakeAnswer.TheVariants.{Made}
 
 -- A plate p made from the sheet s: it is the plate of s and a valid choice, it is accepted, and the inside list that the reader hands
 -- back is that choice's.
@@ -27,4 +25,4 @@ pub record MadeRight (s p : List ℕ) : Type 0 where
 -- into their output, by their contract, is read back to the same split.
 pub record DemandTwo : Type 0 where
   pub reads : (p : List ℕ) → ReadRight p
-  pub made : (s : List ℕ) (r : Option (List ℕ)) (o w o' w' : List ℕ) (k : ℕ) → Making s r o w (Made k) o' w' → MadeRight s (take k o')
+  pub made : (s : List ℕ) (r : Option (List ℕ)) (o w o' w' : List ℕ) (k : ℕ) → Making s r o w (Ok k) o' w' → MadeRight s (take k o')

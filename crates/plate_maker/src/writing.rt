@@ -1,5 +1,5 @@
 // Writing a plate: the sheet's bytes, the inside section and the outside section.
-ghost use Rattle.std.specs.Prelude.{◌≡◌, ◌+◌, ◌*◌, ◌<◌, ◌≤◌, ◌∷◌, ◌++◌, length, drop};
+ghost use Rattle.std.specs.Prelude.{◌≡◌, MatchOption, ◌+◌, ◌*◌, ◌<◌, ◌≤◌, ◌∷◌, ◌++◌, length, drop};
 ghost use Rattle.labeling.specs.Points.{Choice, placed};
 ghost use Rattle.format.specs.Sheet.{sheet_no, point_count, points_of};
 ghost use Rattle.format.specs.Plate.{pairs, plate_of};
@@ -10,16 +10,22 @@ ghost use Rattle.plate_maker.specs.Writing.{section_of, margin_after, plate_of_l
 use format::copy_to;
 use optimum::BestChoice;
 
-// The margin column of the outside position that comes next after `count` others, the last of them `previous` in the margin column
-// `margin`: 0 for the first.
-fn margin_after(sheet: &[u8], count: usize, previous: u8, margin: u8, position: u8) -> u8
-    requires { margin < 255 }
-    ensures { result ≡ margin_after (points_of sheet.now) count previous margin position }
+// An outside position and its margin column: a pair of the outside section.
+#[derive(Clone, Copy)]
+struct Pair {
+    position: u8,
+    margin: u8,
+}
+
+// The margin column of the outside position that comes next after `last`: 0 where there is none before it.
+fn margin_after(sheet: &[u8], last: Option<Pair>, position: u8) -> u8
+    requires { MatchOption last Unit (λ pair. pair.margin < 255) }
+    ensures { result ≡ margin_after (points_of sheet.now) last position }
 {
-    if count == 0 {
-        return 0;
+    match last {
+        None => 0,
+        Some(pair) => format::next_margin(sheet, pair.position, pair.margin, position) as u8,
     }
-    format::next_margin(sheet, previous, margin, position) as u8
 }
 
 // Writes the inside section of a list of positions from the place `at` on, and gives the place after it.
@@ -40,16 +46,13 @@ fn write_pairs(sheet: &[u8], list: &[u8], output: &mut [u8], at: usize)
     ensures { output.new
         ≡ written output.old at (pairs (placed (points_of sheet.now) list.now)) }
 {
-    let mut previous: u8 = 0;
-    let mut margin: u8 = 0;
-    let mut count: usize = 0;
-    while count < list.len() {
-        let position = list[count];
-        margin = margin_after(sheet, count, previous, margin, position);
-        output[at + 2 * count] = position;
-        output[at + 2 * count + 1] = margin;
-        previous = position;
-        count += 1;
+    let mut last = None;
+    for (k, position) in list.iter().enumerate() {
+        let position = *position;
+        let margin = margin_after(sheet, last, position);
+        output[at + 2 * k] = position;
+        output[at + 2 * k + 1] = margin;
+        last = Some(Pair { position, margin });
     }
 }
 
@@ -88,14 +91,5 @@ pub(crate) fn write_split(sheet: &[u8], choice: BestChoice, output: &mut [u8]) -
         × (output.new
         ≡ plate_of sheet.now S ++ drop (length (plate_of sheet.now S)) output.old) }
 {
-    let inside = choice.inside;
-    let inside_count = choice.inside_count as usize;
-    let outside = choice.outside;
-    let outside_count = choice.outside_count as usize;
-    write_plate(
-        sheet,
-        &inside[0..inside_count],
-        &outside[0..outside_count],
-        output,
-    )
+    write_plate(sheet, choice.inside.list(), choice.outside.list(), output)
 }

@@ -1,44 +1,56 @@
 -- `plate_maker::make_with` meets its contract. Assumes nothing.
-use mathlib.Core.Path.{◌≡◌, sym, ap, ◌∙◌}
-use Rattle.format.proofs.Accepted.{none-sheet}
+use mathlib.Core.Path.{◌≡◌, refl, sym, ap, ◌∙◌}
 use lib.ListN.{length}
-use Rattle.format.specs.MakingQuestions.{choosing_no, making_no}
+use Rattle.std.specs.Prelude.{Bool, List, ℕ, Option, Result, IfOk}
+use Rattle.std.proofs.lemmas.Result.{err_from_is_err_and}
+use Rattle.format.specs.declared.refusal.Refusal.{Refusal}
+use Rattle.format.specs.Answers.{no_of}
+use Rattle.format.specs.RankList.{rank_in}
+use Rattle.format.proofs.Accepted.{none-sheet}
+use Rattle.format.specs.MakingQuestions.{output_fits, choosing_no, making_no, workspace_after}
 use Rattle.format.proofs.MakingQuestions.{none-making}
-use Rattle.format.specs.RankList.{rank_in, lent}
 use Rattle.format.specs.Plate.{best_choice_of, best_plate}
-use Rattle.optimum.specs.Choosing.{split_of}
+use Rattle.optimum.specs.declared.BestChoice.{BestChoice}
+use Rattle.optimum.specs.Choosing.{split_of, chosen_of, Choosing}
 use Rattle.optimum.proofs.ChoosingLaws.{chosen-no, chosen-split}
 use Rattle.plate_maker.proofs.MakingLaws.{refused-making, made-making}
 use Rattle.plate_maker.proofs.make_with.Goals as goal
-use Rattle.plate_maker.proofs.make_with.Goals.{After-best_choice-choice}
 
-same-no : (c : After-best_choice-choice) → (choosing_no c.args.sheet.now (lent c.args.ranked c.args.ranks.now) c.output_fits-fits.result (length c.args.workspace.now)) ≡ (making_no c.args.sheet.now (lent c.args.ranked c.args.ranks.now) (length c.args.output.now) (length c.args.workspace.now))
-unfolding making_no
-same-no c =
-    ap (λ b. choosing_no c.args.sheet.now (lent c.args.ranked c.args.ranks.now) b (length c.args.workspace.now)) c.output_fits-fits.ensures
+-- where `fits` answers 21, what is chosen has the number of the making's first no
+module _ (s : List ℕ) (l : Option (List ℕ)) (fits : Bool) (o w : List ℕ) (r : Result BestChoice Refusal)
+    (fit : fits ≡ output_fits s (length o)) (answer : r ≡ chosen_of s (rank_in l) (choosing_no s l fits (length w))) where
+  same-no : choosing_no s l fits (length w) ≡ making_no s l (length o) (length w)
+  unfolding making_no
+  same-no = ap (λ b. choosing_no s l b (length w)) fit
 
-first-no : (c : After-best_choice-choice) → c.best_choice-choice.result.no ≡ (making_no c.args.sheet.now (lent c.args.ranked c.args.ranks.now) (length c.args.output.now) (length c.args.workspace.now))
-first-no c = chosen-no c.args.sheet.now (rank_in (lent c.args.ranked c.args.ranks.now)) (choosing_no c.args.sheet.now (lent c.args.ranked c.args.ranks.now) c.output_fits-fits.result (length c.args.workspace.now)) _ c.best_choice-choice.ensures.answer ∙ same-no c
+  chosen : Choosing s l fits w r (workspace_after (choosing_no s l fits (length w)) w)
+  chosen = record { answer = answer; workspace = refl }
 
-pub returns-then-choice-ne0 : goal.returns-then-choice-ne0
-returns-then-choice-ne0 c =
-    refused-making _ _ _ _ _ _ (first-no (goal.at.returns-then-choice-ne0 c).After-best_choice-choice) c.if-choice-ne0.true (rw (← same-no (goal.at.returns-then-choice-ne0 c).After-best_choice-choice) c.best_choice-choice.ensures.workspace)
+  first-no : no_of r ≡ making_no s l (length o) (length w)
+  first-no = chosen-no chosen ∙ same-no
 
--- where nothing is refused, the lists are those of the best choice
-split : (c : After-best_choice-choice) → c.best_choice-choice.result.no ≡ 0
-    → c.best_choice-choice.result ≡ split_of c.args.sheet.now (best_choice_of c.args.sheet.now (lent c.args.ranked c.args.ranks.now))
-split c none = chosen-split c.args.sheet.now (rank_in (lent c.args.ranked c.args.ranks.now)) (choosing_no c.args.sheet.now (lent c.args.ranked c.args.ranks.now) c.output_fits-fits.result (length c.args.workspace.now)) _ c.best_choice-choice.ensures.answer none
+  split : IfOk r (λ x. x ≡ split_of s (best_choice_of s l))
+  split = chosen-split chosen
+
+pub returns-in_err-choice : goal.returns-in_err-choice
+returns-in_err-choice c =
+    let e = c.in_err-choice.ensures in
+    let fit = c.output_fits-fits.ensures in
+    let p = err_from_is_err_and c.from_residual.result c.from_residual.ensures.1 in
+    rw (p.1, p.2)
+    (refused-making _ _ _ _ _ _ (first-no _ _ _ _ _ _ fit e.answer) (rw (← same-no _ _ _ _ _ _ fit e.answer) e.workspace))
 
 pub write_split-requires : goal.write_split-requires
 write_split-requires c =
-    let none = c.if-choice-ne0.false in
-    let f = (none-making _ _ _ _).is (sym (first-no (goal.at.write_split-requires c).After-best_choice-choice) ∙ none) in
-    ((none-sheet _).of f.0.0.0, (_, split (goal.at.write_split-requires c).After-best_choice-choice none), f.0.0.1.0)
+    let e = c.in_ok-choice.ensures in
+    let fit = c.output_fits-fits.ensures in
+    let f = (none-making _ _ _ _).is (sym (first-no _ _ _ _ _ _ fit e.answer)) in
+    ((none-sheet _).of f.0.0.0, (_, split _ _ _ _ _ _ fit e.answer), f.0.0.1.0)
 
 pub returns : goal.returns
 unfolding best_plate
 returns c =
-    let none = c.if-choice-ne0.false in
-    let best = c.write_split.ensures _ (split (goal.at.returns c).After-best_choice-choice none) in
-    made-making _ _ _ _ _ _ _ (sym (first-no (goal.at.returns c).After-best_choice-choice) ∙ none)
-    (rw (← same-no (goal.at.returns c).After-best_choice-choice) c.best_choice-choice.ensures.workspace) best.0 best.1
+    let e = c.in_ok-choice.ensures in
+    let fit = c.output_fits-fits.ensures in
+    let best = c.write_split.ensures _ (split _ _ _ _ _ _ fit e.answer) in
+    made-making _ _ _ _ _ _ _ (sym (first-no _ _ _ _ _ _ fit e.answer)) (rw (← same-no _ _ _ _ _ _ fit e.answer) e.workspace) best.0 best.1

@@ -1,20 +1,20 @@
 -- `plate_maker::writing::margin_after` meets its contract. Assumes nothing.
-use borrow.Author.Tests.{eq-eqb, ne_eqb}
-use native.Mathlib.Omega.{arith}
+use Rattle.std.proofs.Common.{arith}
 use Rattle.labeling.proofs.Margin.{next-most}
 use Rattle.format.specs.Sheet.{points_of}
 use Rattle.plate_maker.specs.Writing.{margin_after}
 use Rattle.plate_maker.proofs.writing.margin_after.Goals as goal
 
-pub returns-then-count-eq0 : goal.returns-then-count-eq0
-unfolding margin_after
-returns-then-count-eq0 c = rw (eq-eqb c.args.count 0 c.if-count-eq0.true)
-
 pub overflow_cast-result : goal.overflow_cast-result
 overflow_cast-result c =
-    let a = c.args in
-    omega (arith, c.requires, c.next_margin.ensures, next-most (points_of a.sheet.now) a.previous a.margin a.position)
+    let pair = c.in-Some.pair in
+    let small = rw c.in-Some.is at c.requires in
+    omega (arith, small, c.next_margin.ensures, next-most (points_of c.args.sheet.now) pair.position pair.margin c.args.position)
 
-pub returns : goal.returns
+pub returns-in-None : goal.returns-in-None
 unfolding margin_after
-returns c = rw (ne_eqb c.args.count 0 c.if-count-eq0.false) c.next_margin.ensures
+returns-in-None c = rw c.in-None.is
+
+pub returns-in-Some : goal.returns-in-Some
+unfolding margin_after
+returns-in-Some c = rw c.in-Some.is c.next_margin.ensures
