@@ -1,9 +1,8 @@
 -- DEMAND 3, PROVED: the desk after any calls is tied to document 01's words, and so is each answer. The last theorem, demand-three, is that
 -- every sequence of calls has what DemandThree.antt claims. Assumes nothing.
-use Rattle.std.specs.Prelude.{◌≡◌, Bool, true, false, cond, List, [], ◌∷◌, ◌++◌, ℕ, suc, ◌+◌, ◌*◌, ◌≤◌, ◌<◌, eqb, length, take, replicate}
+use Rattle.std.specs.Prelude.{◌≡◌, true, false, cond, List, [], ◌∷◌, ◌++◌, ℕ, suc, ◌+◌, ◌*◌, ◌≤◌, ◌<◌, eqb, length, take, replicate, Option, None, Some, is_some, Result, Ok, Err}
 use Rattle.std.proofs.Math.Path.{refl, sym}
-use Rattle.std.proofs.Common.{ap, ap₂, ◌∙◌, true≢false, append-nil, length-append, eqb-true, arith}
-use Rattle.std.proofs.Math.Option.{Option, none, some}
+use Rattle.std.proofs.Common.{ap, ap₂, ◌∙◌, true≢false, append-nil, length-append, eqb-true, ne_eqb, arith}
 use Rattle.std.proofs.lemmas.List.{length-replicate}
 use Rattle.std.proofs.lemmas.Bool.{eqb-false}
 use Rattle.format.specs.Sizes.{workspace_cells}
@@ -16,13 +15,13 @@ use Rattle.labeling.proofs.Decide.{not-both, decide}
 use Rattle.format.specs.Sheet.{point_count, points_of}
 use Rattle.format.specs.Accepted.{UpTo, Accepted}
 use Rattle.format.specs.Plate.{choice_of, inside_below, best_choice_of, best_plate}
+use Rattle.format.specs.declared.refusal.Refusal.{Refusal}
+use Rattle.format.specs.Answers.{no_of, outcome_of}
 use Rattle.format.specs.RankList.{rank_in}
 use Rattle.format.specs.RightRanks.{RightRanks}
 use Rattle.format.proofs.RightRanks.{ranks-up-to}
-use Rattle.clash.specs.declared.ClashKind.{ClashKind}
 use Rattle.clash.specs.declared.Clash.{Clash}
-use Rattle.clash.specs.declared.Clash.TheVariants.{None, Between}
-use Rattle.clash.specs.FirstClash.{is_clash, first_clash}
+use Rattle.clash.specs.FirstClash.{is_clash, between, first_clash}
 use Rattle.clash.specs.ClashPixels.{FirstClashRight}
 use Rattle.clash.proofs.ClashPixels.{first-clash-right}
 use Rattle.format.proofs.InsideList.{choice-of-list, inside-ascending}
@@ -30,14 +29,12 @@ use Rattle.format.specs.MakingQuestions.{making_no, workspace_after, output_afte
 use Rattle.format.proofs.MakingQuestions.{none-making, none-load, zeroed-61, untouched}
 use Rattle.plate_maker.specs.Making.{make_outcome, Making}
 use Rattle.plate_maker.proofs.MakingLaws.{made-making, made-preferred, made-start}
-use Rattle.plate_maker.specs.declared.MakeAnswer.{MakeAnswer}
-use Rattle.plate_maker.specs.declared.MakeAnswer.TheVariants.{Made, Refused}
 use Rattle.mark_questions.specs.MarkQuestions.{positions, loaded_list_no, mark_no}
 use Rattle.mark_questions.specs.Lists.{Listed}
 use Rattle.mark_questions.proofs.Lists.{none_list, choice-listed, none-mark}
-use Rattle.desk.specs.Desk.{sum_of, list_sum, no_sheet, nothing_held, ranks_held, rank_held, held_of, load_outcome, verdict_by, verdict_at}
+use Rattle.desk.specs.Desk.{sum_of, list_sum, no_sheet, nothing_held, ranks_held, rank_held, held_of, load_of, verdict_by, verdict_at}
 use Rattle.desk.specs.Desk.{verdict_of, first_no, marked_desk, verdict_outcome, mark_outcome}
-use Rattle.desk.proofs.DeskLaws.{load-yes, load-no, mark-yes, mark-no}
+use Rattle.desk.proofs.DeskLaws.{load-yes, load-no, load-number-of, load-outcome-of, mark-yes, mark-no, mark-outcome-of}
 use Rattle.desk.proofs.SumsLaws.{weight-below-most, inside-sum, sum_same, list-sum}
 use Rattle.desk.specs.Calls.{load, mark, Calls, no_calls, ◌and_then◌, desk_after, AcceptedLoad, accepts, loaded_after}
 use Rattle.desk.specs.Calls.{Taken, last_taken, points_in}
@@ -46,7 +43,6 @@ use Rattle.desk.specs.DemandThree.{given, numbered_lists, number_from, LoadRight
 use Rattle.desk.specs.DemandThree.{MarkedRight, MarkRight, BestList, DemandThree}
 use Rattle.desk.proofs.Loaded.{points-same, count_same, rank-held, section-read}
 use Rattle.desk.specs.declared.Desk.{Desk}
-use Rattle.desk.specs.declared.MarkAnswer.TheVariants.{Marked}
 use Rattle.desk.specs.declared.Verdict.{Verdict}
 
 -- VERDICTS AND PLATES
@@ -64,10 +60,10 @@ module _ (s : List ℕ) (r : Option (List ℕ)) (l : List ℕ) (a : Accepted s) 
       c : FirstClashRight (points_of s) (choice_of_list l)
       c = first-clash-right s (choice_of_list l) a
 
-      apart : {i j : ℕ} {k : ClashKind} → None ≡ Between i j k → ⊥
+      apart : {x : Clash} → None ≡ Some x → ⊥
       apart e = true≢false (sym (ap is_clash e))
 
-      which : (x : Clash) → first_clash (points_of s) (choice_of_list l) ≡ x
+      which : (x : Option Clash) → first_clash (points_of s) (choice_of_list l) ≡ x
           → VerdictRight s r l (verdict_outcome (verdict_by x (list_sum (rank_in r) l) (best_sum (points_of s) (rank_in r))))
       which None e = record {
         valid-exactly = (λ t. c.none.0 e, λ v. refl);
@@ -75,16 +71,19 @@ module _ (s : List ℕ) (r : Option (List ℕ)) (l : List ℕ) (a : Accepted s) 
         at_most = list-at-most;
         clash = λ i j k. (λ q. absurd (true≢false (λ t. (q t).valid)), λ n. absurd (apart (sym e ∙ (c.between i j k).1 n)));
       }
-      which (Between i j k) e = record {
+      which (Some x) e = record {
         valid-exactly = (λ t. absurd (not-both t refl), λ v. absurd (apart (sym (c.none.1 v) ∙ e)));
         valid = λ v. absurd (apart (sym (c.none.1 v) ∙ e));
         at_most = list-at-most;
         clash = λ a b m. (
           λ q.
-              let f : some i ≡ some a = λ t. (q t).first in
-              let g : some j ≡ some b = λ t. (q t).second in
-              let h : some k ≡ some m = λ t. (q t).kind in
-              let y : Between i j k ≡ Between a b m = cc in
+              let f : Some x.first ≡ Some a = λ t. (q t).first in
+              let g : Some x.second ≡ Some b = λ t. (q t).second in
+              let h : Some x.kind ≡ Some m = λ t. (q t).kind in
+              let i : x.first ≡ a = cc in
+              let j : x.second ≡ b = cc in
+              let k : x.kind ≡ m = cc in
+              let y : Some x ≡ between a b m = λ t. Some (record { first = i t; second = j t; kind = k t }) in
               (c.between a b m).0 (e ∙ y),
           λ n.
               ap (λ x. verdict_outcome (verdict_by x (list_sum (rank_in r) l) (best_sum (points_of s) (rank_in r))))
@@ -121,10 +120,10 @@ module _ (s : List ℕ) (r : Option (List ℕ)) where
   plate-made : (p : List ℕ) → PlateMade s r p → (p ≡ best_plate s r) × Preferred (points_of s) (rank_in r) (best_choice_of s r)
   plate-made p m = by m.answer m.made m.not-refused m.plate
     where
-      by : {o w o' w' : List ℕ} (answer : MakeAnswer) → Making s r o w answer o' w' → (make_outcome answer).refused ≡ false
+      by : {o w o' w' : List ℕ} (answer : Result ℕ Refusal) → Making s r o w answer o' w' → (make_outcome answer).refused ≡ false
           → p ≡ take (make_outcome answer).written o' → (p ≡ best_plate s r) × Preferred (points_of s) (rank_in r) (best_choice_of s r)
-      by (Refused k) m e q = absurd (true≢false e)
-      by (Made k) m e q = (q ∙ made-start m, made-preferred m)
+      by (Err x) m e q = absurd (true≢false e)
+      by (Ok k) m e q = (q ∙ made-start m, made-preferred m)
 
   -- THE SAME PLATE FROM EVERY DESK (document 02 (d)): two plates made from one sheet, with one list or none and any buffers, are one.
   pub one-plate : (p q : List ℕ) → PlateMade s r p → PlateMade s r q → p ≡ q
@@ -154,7 +153,7 @@ feasible-plate s r a l f =
       record {
         output = o;
         workspace = w;
-        answer = Made (length (best_plate s r));
+        answer = Ok (length (best_plate s r));
         output-after = output_after 0 s r o;
         workspace-after = workspace_after (making_no s r (length o) (length w)) w;
         made = made-making s r o w _ _ _ z refl refl refl;
@@ -171,14 +170,10 @@ some-plate s r w z = let a = (none-load s r (length w)).is z in feasible-plate s
 
 -- What the desk holds of the last accepted sheet and its list.
 SheetHeld : Desk → Option Taken → Type 0
-SheetHeld d none = d.held ≡ nothing_held
-SheetHeld d (some t) =
+SheetHeld d None = d.held ≡ nothing_held
+SheetHeld d (Some t) =
     (d.held ≡ held_of t.sheet (ranks_held t.sheet t.ranks) (best_sum (points_of t.sheet) (rank_in t.ranks)))
     × Accepted t.sheet × RightRanks (point_count t.sheet) t.ranks × Feasible (points_of t.sheet)
-
-abbrev is_some : Option Taken → Bool
-is_some none = false
-is_some (some t) = true
 
 record Tied (calls : Calls) : Type 0 where
   sheet : SheetHeld (desk_after calls) (last_taken calls)
@@ -190,8 +185,8 @@ record Tied (calls : Calls) : Type 0 where
 same-mark-no : (d : Desk) (o : Option Taken) (k : ℕ) (l : List ℕ) → SheetHeld d o → d.last ≡ k
     → first_no d l ≡ mark_no (is_some o) (points_in o) k l
 unfolding SheetHeld mark_no loaded_list_no
-same-mark-no d none k l h e = rw h refl
-same-mark-no d (some t) k l h e = rw (h.0, count_same t.sheet, e) refl
+same-mark-no d None k l h e = rw h refl
+same-mark-no d (Some t) k l h e = rw (h.0, count_same t.sheet, e) refl
 
 tied-mark-no : (calls : Calls) (l : List ℕ) → Tied calls → first_no (desk_after calls) l ≡ mark_no_after calls l
 tied-mark-no calls l t =
@@ -214,10 +209,10 @@ held_at : {d e : Desk} {o q : Option Taken} → d ≡ e → o ≡ q → SheetHel
 held_at p q h = rw (p, q) h
 
 -- a marked list leaves the sheet held
-held-marked : (d : Desk) (k : ℕ) (v : Verdict) (o : Option Taken) → SheetHeld d o → SheetHeld (marked_desk (Marked k v) d) o
+held-marked : (d : Desk) (k : ℕ) (v : Verdict) (o : Option Taken) → SheetHeld d o → SheetHeld (marked_desk (Ok (record { number = k; verdict = v })) d) o
 unfolding SheetHeld
-held-marked d k v none h = h
-held-marked d k v (some t) h = h
+held-marked d k v None h = h
+held-marked d k v (Some t) h = h
 
 tied-load : (calls : Calls) (s : List ℕ) (r : Option (List ℕ)) (w : List ℕ) → Tied calls → Tied (calls and_then load s r w)
 unfolding desk_after last_taken loaded_after marked_lists numbered_lists SheetHeld
@@ -228,7 +223,7 @@ tied-load calls s r w t =
     let x = load-yes (desk_after calls) s r w z in
     let a = (none-load s r (length w)).is z in
     record {
-      sheet = held_at (ap (λ x. x.desk) x) (ap (λ b. cond b (some taken) (last_taken calls)) e) (refl, a.0.0.0, a.0.1, a.1.0);
+      sheet = held_at (ap (λ x. x.desk) x) (ap (λ b. cond b (Some taken) (last_taken calls)) e) (refl, a.0.0.0, a.0.1, a.1.0);
       loaded = rw e refl;
       last = ap (λ x. x.desk.last) x ∙ t.last;
       numbers = t.numbers;
@@ -236,7 +231,7 @@ tied-load calls s r w t =
     (λ e.
     let x = load-no (desk_after calls) s r w (eqb-false _ _ e) in
     record {
-      sheet = held_at (ap (λ x. x.desk) x) (ap (λ b. cond b (some taken) (last_taken calls)) e) t.sheet;
+      sheet = held_at (ap (λ x. x.desk) x) (ap (λ b. cond b (Some taken) (last_taken calls)) e) t.sheet;
       loaded = rw e t.loaded;
       last = ap (λ x. x.desk.last) x ∙ t.last;
       numbers = t.numbers;
@@ -287,7 +282,7 @@ tied (calls and_then mark l) = tied-mark calls l (tied calls)
 -- THE CLAUSES
 
 -- the last accepted sheet is accepted, its list is right, and it has a valid choice
-sheet-accepted : (calls : Calls) (s : List ℕ) (r : Option (List ℕ)) → last_taken calls ≡ some (record { sheet = s; ranks = r })
+sheet-accepted : (calls : Calls) (s : List ℕ) (r : Option (List ℕ)) → last_taken calls ≡ Some (record { sheet = s; ranks = r })
     → Accepted s × RightRanks (point_count s) r × Feasible (points_of s)
 unfolding SheetHeld
 sheet-accepted calls s r e = let h = rw e at (tied calls).sheet in (h.1, h.2, h.3)
@@ -298,8 +293,8 @@ unfolding SheetHeld
 spare-zero calls = by (last_taken calls) (tied calls).sheet
   where
     by : (o : Option Taken) → SheetHeld (desk_after calls) o → (desk_after calls).held.spare ≡ 0
-    by none h = ap (λ x. x.spare) h
-    by (some t) h = ap (λ x. x.spare) h.0
+    by None h = ap (λ x. x.spare) h
+    by (Some t) h = ap (λ x. x.spare) h.0
 
 -- the ranks held are 1 to 9, one for each point of the sheet held
 pub ranks-held : (calls : Calls) (p : ℕ) → p < point_count (desk_after calls).held.sheet
@@ -308,8 +303,8 @@ unfolding SheetHeld no_sheet
 ranks-held calls p l = by (last_taken calls) (tied calls).sheet
   where
     by : (o : Option Taken) → SheetHeld (desk_after calls) o → UpTo 9 (rank_held (desk_after calls).held.ranks p)
-    by none h = let e = ap (λ x. point_count x.sheet) h in absurd (omega arith)
-    by (some t) h =
+    by None h = let e = ap (λ x. point_count x.sheet) h in absurd (omega arith)
+    by (Some t) h =
         let e : point_count (desk_after calls).held.sheet ≡ point_count t.sheet =
         ap (λ x. point_count x.sheet) h.0 ∙ count_same t.sheet in
         let r = rank-held t.sheet t.ranks p (omega arith) in
@@ -322,8 +317,8 @@ unfolding SheetHeld weight
 best-held calls = by (last_taken calls) (tied calls).sheet
   where
     by : (o : Option Taken) → SheetHeld (desk_after calls) o → (desk_after calls).held.best ≤ 288
-    by none h = let e = ap (λ x. x.best) h in omega arith
-    by (some t) h =
+    by None h = let e = ap (λ x. x.best) h in omega arith
+    by (Some t) h =
         let P = points_of t.sheet in
         let e = ap (λ x. x.best) h.0 in
         let x = best-sum-reached P (rank_in t.ranks) h.1.proper.label-width.0 h.3 in
@@ -334,23 +329,23 @@ best-held calls = by (last_taken calls) (tied calls).sheet
 
 load-right : (calls : Calls) (s : List ℕ) (r : Option (List ℕ)) (w : List ℕ) → LoadRight calls s r w
 load-right calls s r w = record {
-  accepted = λ z. ap (λ r. load_outcome r.answer) (load-yes d s r w z);
-  zeroed = λ z. ap (λ r. workspace_after (load_outcome r.answer).no w) (load-yes d s r w z);
+  accepted = λ z. load-outcome-of d s r w ∙ ap outcome_of z;
+  zeroed = λ z. after ∙ ap (λ k. workspace_after k w) z;
   keeps = λ z. ap (λ r. r.desk.last) (load-yes d s r w z);
-  refused = λ ne. ap (λ r. load_outcome r.answer) (load-no d s r w ne);
-  untouched = λ ne other.
-      ap (λ r. workspace_after (load_outcome r.answer).no w) (load-no d s r w ne) ∙ untouched (load_no s r (length w)) w ne other;
-  zeroed-61 = λ e.
-      let ne : load_no s r (length w) ≡ 0 → ⊥ = λ z. omega arith in
-      ap (λ r. workspace_after (load_outcome r.answer).no w) (load-no d s r w ne) ∙ zeroed-61 (load_no s r (length w)) w e;
+  refused = λ ne. load-outcome-of d s r w ∙ rw (ne_eqb (load_no s r (length w)) 0 ne);
+  untouched = λ ne other. after ∙ untouched (load_no s r (length w)) w ne other;
+  zeroed-61 = λ e. after ∙ zeroed-61 (load_no s r (length w)) w e;
   same-desk = λ ne. ap (λ r. r.desk) (load-no d s r w ne);
 }
   where
     d : Desk
     d = desk_after calls
 
+    after : workspace_after (no_of (load_of d s r w).answer) w ≡ workspace_after (load_no s r (length w)) w
+    after = ap (λ k. workspace_after k w) (load-number-of d s r w)
+
 -- a desk that holds the sheet s, and the ranks r, gives the verdict on s by r
-verdict-held : (d : Desk) (s : List ℕ) (r : Option (List ℕ)) (l : List ℕ) → SheetHeld d (some (record { sheet = s; ranks = r }))
+verdict-held : (d : Desk) (s : List ℕ) (r : Option (List ℕ)) (l : List ℕ) → SheetHeld d (Some (record { sheet = s; ranks = r }))
     → Listed (point_count s) l → verdict_of d l ≡ verdict_at s (rank_in r) (best_sum (points_of s) (rank_in r)) l
 unfolding SheetHeld verdict_at
 verdict-held d s r l h f =
@@ -372,9 +367,9 @@ marked-right calls l z = by (last_taken calls) refl
     asked = (none-mark _ _ _ _).is z
 
     by : (o : Option Taken) → last_taken calls ≡ o → MarkedRight calls l
-    by none e = absurd (not-both asked.0.0 (t.loaded ∙ ap is_some e))
-    by (some x) e =
-        let h : SheetHeld d (some x) = rw e at t.sheet in
+    by None e = absurd (not-both asked.0.0 (t.loaded ∙ ap is_some e))
+    by (Some x) e =
+        let h : SheetHeld d (Some x) = rw e at t.sheet in
         let f : Listed (point_count x.sheet) l = rw e at asked.0.1 in
         record {
           sheet = x.sheet;
@@ -383,7 +378,7 @@ marked-right calls l z = by (last_taken calls) refl
           verdict = verdict_outcome (verdict_of d l);
           outcome =
               ap (λ r. mark_outcome r.answer) (mark-yes d l (mark_no_after calls l) (tied-mark-no calls l t) z)
-              ∙ ap (λ k. record { refused = false; no = 0; number = some (k + 1); verdict = some (verdict_outcome (verdict_of d l)) })
+              ∙ ap (λ k. record { refused = false; no = 0; number = Some (k + 1); verdict = Some (verdict_outcome (verdict_of d l)) })
               t.last;
           right = rw (verdict-held d x.sheet x.ranks l h f) (verdict-right x.sheet x.ranks l h.1 f);
         }
@@ -392,7 +387,8 @@ mark-right : (calls : Calls) (l : List ℕ) → MarkRight calls l
 mark-right calls l = record {
   marked = marked-right calls l;
   refused = λ ne.
-      ap (λ r. mark_outcome r.answer) (mark-no (desk_after calls) l (mark_no_after calls l) (tied-mark-no calls l (tied calls)) ne);
+      mark-outcome-of (desk_after calls) l
+      ∙ rw (tied-mark-no calls l (tied calls), ne_eqb (mark_no_after calls l) 0 ne);
   same-desk = λ ne. ap (λ r. r.desk) (mark-no (desk_after calls) l (mark_no_after calls l) (tied-mark-no calls l (tied calls)) ne);
 }
 

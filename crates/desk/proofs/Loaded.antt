@@ -1,10 +1,9 @@
 -- What a desk holds of a loaded sheet, and what the plate maker's promise says of a plate: the figures of the padded bytes are the
 -- sheet's, the ranks are those of the list that was lent, and the inside section of a made plate is the best choice's. Assumes nothing.
-use Rattle.std.specs.Prelude.{◌≡◌, refl, ℕ, zero, suc, ◌+◌, ◌*◌, ◌-◌, ◌≤◌, ◌<◌, ltb, get_or, set, replicate}
+use Rattle.std.specs.Prelude.{◌≡◌, refl, ℕ, zero, suc, ◌+◌, ◌*◌, ◌-◌, ◌≤◌, ◌<◌, ltb, get_or, set, replicate, Option}
 use Rattle.std.proofs.Common.{sym, ap, ◌∙◌, length-append, get_or-append-add, ltb-true, ltb-false, arith}
 use Rattle.std.proofs.Math.Path.{ap₂}
 use mathlib.Core.List.{List, [], ◌∷◌, ◌++◌, append_assoc, append-nil}
-use Rattle.std.proofs.Math.Option.{Option}
 use Rattle.std.proofs.Math.ListN.{length, take, drop, get_or-append, get_or-eq_default}
 use Rattle.std.proofs.lemmas.List.{length-replicate, get_or-replicate, set_at, get_or_at}
 use Rattle.std.proofs.Math.Seq.{take_at, drop_at}

@@ -1,6 +1,8 @@
 -- Sums of ranks: the sum of a list is the weight of the choice that it stands for. Assumes nothing.
 use Rattle.std.specs.Prelude.{◌≡◌, refl, true, List, [], ◌∷◌, ◌++◌, ℕ, zero, suc, ◌+◌, ◌*◌, ◌≤◌, ◌<◌}
 use Rattle.std.proofs.Common.{sym, ap, ◌∙◌, append-nil, arith}
+use Rattle.std.specs.List.{sum_by}
+use Rattle.std.proofs.lemmas.List.Recursion.{is_sum_by}
 use Rattle.labeling.proofs.Decide.{decide}
 use Rattle.labeling.specs.Points.{Choice}
 use Rattle.labeling.specs.Best.{weight_below, weight}
@@ -11,6 +13,11 @@ use Rattle.format.proofs.InsideList.{ascending-head, list-of-choice}
 use Rattle.mark_questions.specs.MarkQuestions.{positions}
 use Rattle.mark_questions.specs.Lists.{Listed}
 use Rattle.desk.specs.Desk.{sum_of, list_sum}
+
+-- a sum over the list
+pub sum-by : (rank : ℕ → ℕ) (l : List ℕ) → sum_of rank l ≡ sum_by rank l
+unfolding sum_of
+sum-by rank l = is_sum_by (sum_of rank) rank refl (λ _ _. refl) l
 
 sum-append : (rank : ℕ → ℕ) (l m : List ℕ) → sum_of rank (l ++ m) ≡ sum_of rank l + sum_of rank m
 unfolding sum_of

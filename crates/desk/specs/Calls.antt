@@ -1,15 +1,14 @@
 -- A sequence of calls, and document 01's words about it ("The desk", words of demand 3) with the rank lists of document 02 (e): first the
 -- sequence and the desk that it leaves, by the promises of a load and of a mark; then the words, from the calls alone. What demand 3 claims
 -- in these words is in DemandThree.antt. Assumes nothing.
-use Rattle.std.specs.Prelude.{◌≡◌, Bool, false, cond, ◌||◌, List, [], ◌∷◌, ◌++◌, ℕ, ◌+◌, eqb, length, take, drop}
-use Rattle.std.proofs.Math.Option.{Option, none, some}
+use Rattle.std.specs.Prelude.{◌≡◌, Bool, false, cond, ◌||◌, List, [], ◌∷◌, ◌++◌, ℕ, ◌+◌, eqb, length, take, drop, Option, None, Some, Result}
 use Rattle.labeling.specs.Points.{Choice}
 use Rattle.labeling.specs.Marks.{Valid}
+use Rattle.format.specs.declared.refusal.Refusal.{Refusal}
 use Rattle.format.specs.Sheet.{point_count, points_of, sheet_length}
 use Rattle.format.specs.Plate.{choice_of}
 use Rattle.plate_reader.specs.PlateQuestions.{inside_count}
 use Rattle.plate_maker.specs.Making.{make_outcome, Making}
-use Rattle.plate_maker.specs.declared.MakeAnswer.{MakeAnswer}
 use Rattle.format.specs.MakingQuestions.{load_no}
 use Rattle.mark_questions.specs.MarkQuestions.{positions, list_no, mark_no}
 use Rattle.desk.specs.Desk.{fresh, load_of, mark_of}
@@ -62,14 +61,14 @@ pub record Taken : Type 0 where
 
 -- "the last sheet so accepted", where there is one, with its list
 unfoldable pub last_taken : Calls → Option Taken
-last_taken no_calls = none
-last_taken (calls and_then load s r w) = cond (accepts s r w) (some (record { sheet = s; ranks = r })) (last_taken calls)
+last_taken no_calls = None
+last_taken (calls and_then load s r w) = cond (accepts s r w) (Some (record { sheet = s; ranks = r })) (last_taken calls)
 last_taken (calls and_then mark l) = last_taken calls
 
 -- "n is that of the last sheet so accepted" (0 where there is none)
 abbrev pub points_in : Option Taken → ℕ
-points_in none = 0
-points_in (some t) = point_count t.sheet
+points_in None = 0
+points_in (Some t) = point_count t.sheet
 
 -- The lists marked, in their order. "A list is marked if all its mark's questions are answered yes. In these, ... the last number is how
 -- many lists were marked earlier in the sequence, under whatever sheets."
@@ -110,7 +109,7 @@ pub record ValidList (s l : List ℕ) : Type 0 where
 pub record PlateMade (s : List ℕ) (r : Option (List ℕ)) (p : List ℕ) : Type 0 where
   pub output : List ℕ
   pub workspace : List ℕ
-  pub answer : MakeAnswer
+  pub answer : Result ℕ Refusal
   pub output-after : List ℕ
   pub workspace-after : List ℕ
   pub made : Making s r output workspace answer output-after workspace-after

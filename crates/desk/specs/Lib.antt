@@ -3,5 +3,3 @@ pub mod Desk
 pub mod Calls
 pub mod DemandThree
 pub mod Unranked
--- FOR PROOFS: the buffer that a load lends.
-pub mod Blank

@@ -1,7 +1,6 @@
 -- "Without a list every rank is 1 and all earlier answers hold" (document 02 (e)), at the desk: sums are counts. proofs/Unranked.antt shows
 -- it, and that a load with a list of ones is one without a list. Assumes nothing.
-use Rattle.std.specs.Prelude.{◌≡◌, false, List, ℕ, ◌+◌, ◌-◌, ◌≤◌}
-use Rattle.std.proofs.Math.Option.{none, some}
+use Rattle.std.specs.Prelude.{◌≡◌, false, List, ℕ, ◌+◌, ◌-◌, ◌≤◌, None, Some}
 use Rattle.labeling.specs.Marks.{Valid}
 use Rattle.labeling.specs.Best.{best_count}
 use Rattle.format.specs.Sheet.{points_of}
@@ -26,6 +25,6 @@ pub record ByCount (calls : Calls) (s : List ℕ) : Type 0 where
   pub mark : (l : List ℕ) → MarkedAfter calls l
       → (v : VerdictOutcome)
       × (mark_outcome (mark_of (desk_after calls) l).answer
-      ≡ record { refused = false; no = 0; number = some (last_number calls + 1); verdict = some v })
+      ≡ record { refused = false; no = 0; number = Some (last_number calls + 1); verdict = Some v })
       × VerdictByCount s l v
-  pub plates : (p : List ℕ) → PlateMade s none p → BestByCount s (section_read p)
+  pub plates : (p : List ℕ) → PlateMade s None p → BestByCount s (section_read p)

@@ -2,13 +2,10 @@
 #![tactic(auto)]
 
 ghost use Rattle.std.specs.Prelude.{◌≡◌};
-ghost use Rattle.std.proofs.Math.Option.{none, some};
 ghost use Rattle.desk.specs.Desk.{fresh, Loading, Marking};
 
 use clash::ClashKind;
-use format::{MOST_POINTS, SHEET_ROOM};
-use loading::{load_with, nothing_held};
-use marking::{answer_to, first_no};
+use format::{MOST_POINTS, Refusal, SHEET_ROOM};
 
 mod loading;
 mod marking;
@@ -16,7 +13,7 @@ mod sums;
 
 // What a load puts into the desk: the bytes of the sheet, zeros past its end; the ranks of its points, by position, zeros past the last;
 // whether a sheet is loaded; and its best sum of ranks. The spare byte stands where C's alignment would leave one unset. It is 0 in a fresh
-// desk and in what a load puts there, and goes along otherwise.
+// desk and in what a load puts there, and goes along otherwise. C reads these fields, so a flag says what an Option would.
 #[repr(C)]
 #[derive(Clone, Copy)]
 pub struct Held {
@@ -35,13 +32,6 @@ pub struct Desk {
     pub last: u16,
 }
 
-// What load and load_ranked answer: the sheet is accepted, or refused with the number of the first no.
-#[derive(Clone, Copy)]
-pub enum LoadAnswer {
-    Accepted,
-    Refused(u8),
-}
-
 // What the desk says of a marked list: valid, with its sum of ranks and its shortfall; or a clash, with two positions and its kind.
 #[derive(Clone, Copy)]
 pub enum Verdict {
@@ -56,25 +46,18 @@ pub enum Verdict {
     },
 }
 
-// What mark answers: the list is marked, with its number and the verdict, or refused with the number of the first no.
+// What mark answers of a marked list: its number and the verdict.
 #[derive(Clone, Copy)]
-pub enum MarkAnswer {
-    Marked { number: u16, verdict: Verdict },
-    Refused(u8),
+pub struct Marked {
+    pub number: u16,
+    pub verdict: Verdict,
 }
 
-// The desk after a load, and the answer.
+// The desk after a load or a mark, and the answer.
 #[derive(Clone, Copy)]
-pub struct LoadResult {
+pub struct After<A> {
     pub desk: Desk,
-    pub answer: LoadAnswer,
-}
-
-// The desk after a mark, and the answer.
-#[derive(Clone, Copy)]
-pub struct MarkResult {
-    pub desk: Desk,
-    pub answer: MarkAnswer,
+    pub answer: A,
 }
 
 impl Desk {
@@ -83,31 +66,47 @@ impl Desk {
         ensures { result ≡ fresh }
     {
         Desk {
-            held: nothing_held(),
+            held: Held::nothing(),
             last: 0,
         }
     }
 
     // Loads a sheet: it replaces the desk's sheet and best, and the last number is kept. No list is lent: every rank is 1.
-    pub fn load(self, sheet: &[u8], workspace: &mut [u16]) -> LoadResult
-        ensures { Loading self sheet.now none workspace.old result workspace.new }
+    pub fn load(self, sheet: &[u8], workspace: &mut [u16]) -> After<Result<(), Refusal>>
+        ensures { Loading self sheet.now None workspace.old result workspace.new }
     {
-        load_with(self, sheet, false, b"", workspace)
+        self.load_with(sheet, None, workspace)
     }
 
     // Loads a sheet with the ranks of a list; all else is as with load.
-    pub fn load_ranked(self, sheet: &[u8], ranks: &[u8], workspace: &mut [u16]) -> LoadResult
-        ensures { Loading self sheet.now (some ranks.now) workspace.old result
+    pub fn load_ranked(
+        self,
+        sheet: &[u8],
+        ranks: &[u8],
+        workspace: &mut [u16],
+    ) -> After<Result<(), Refusal>>
+        ensures { Loading self sheet.now (Some ranks.now) workspace.old result
             workspace.new }
     {
-        load_with(self, sheet, true, ranks, workspace)
+        self.load_with(sheet, Some(ranks), workspace)
     }
 
     // Marks a list: it takes the next number and gets a verdict.
-    pub fn mark(self, list: &[u8]) -> MarkResult
+    pub fn mark(self, list: &[u8]) -> After<Result<Marked, Refusal>>
         ensures { Marking self list.now result }
     {
-        let no = first_no(self, list);
-        answer_to(self, list, no)
+        match self.marked(list) {
+            Ok(marked) => After {
+                desk: Desk {
+                    last: marked.number,
+                    ..self
+                },
+                answer: Ok(marked),
+            },
+            Err(refusal) => After {
+                desk: self,
+                answer: Err(refusal),
+            },
+        }
     }
 }

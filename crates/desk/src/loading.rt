@@ -1,131 +1,99 @@
 // What a load puts into the desk.
-ghost use Rattle.std.specs.Prelude.{◌≡◌, ◌≤◌, length};
+ghost use Rattle.std.specs.Prelude.{◌≡◌, ◌≤◌, length, option_copied};
+ghost use Rattle.labeling.specs.Best.{best_sum};
+ghost use Rattle.format.specs.Answers.{answered};
+ghost use Rattle.format.specs.MakingQuestions.{load_no, workspace_after};
 ghost use Rattle.format.specs.Padded.{padded};
+ghost use Rattle.format.specs.Sheet.{points_of};
 ghost use Rattle.format.specs.Sizes.{most_points, sheet_room};
-ghost use Rattle.format.specs.RankList.{rank_in, lent};
-ghost use Rattle.desk.specs.Desk.{no_sheet, no_ranks, nothing_held, ranks_below, held_of, with_held, Loading};
-ghost use Rattle.desk.specs.Blank.{blank_plate};
+ghost use Rattle.format.specs.RankList.{rank_in};
+ghost use Rattle.desk.specs.Desk.{nothing_held, ranks_below, ranks_held, held_of, Loading};
 
 use crate::sums::inside_sum;
-use crate::{Desk, Held, LoadAnswer, LoadResult};
-use format::{MOST_POINTS, PLATE_ROOM, SHEET_ROOM};
-use plate_maker::{MakeAnswer, make_with};
+use crate::{After, Desk, Held};
+use format::{MOST_POINTS, PLATE_ROOM, Refusal, SHEET_ROOM};
+use plate_maker::make_with;
 use rank_list::rank_of;
-
-// The bytes of no sheet.
-fn no_sheet() -> [u8; SHEET_ROOM]
-    ensures { result ≡ no_sheet }
-{
-    [0u8; SHEET_ROOM]
-}
-
-// No ranks.
-fn no_ranks() -> [u8; MOST_POINTS]
-    ensures { result ≡ no_ranks }
-{
-    [0u8; MOST_POINTS]
-}
-
-// What a desk without a sheet holds.
-pub(crate) fn nothing_held() -> Held
-    ensures { result ≡ nothing_held }
-{
-    Held {
-        sheet: no_sheet(),
-        ranks: no_ranks(),
-        loaded: false,
-        spare: 0,
-        best: 0,
-    }
-}
 
 // The bytes of a sheet, and zeros past its end.
 fn padded_sheet(sheet: &[u8]) -> [u8; SHEET_ROOM]
     requires { length sheet.now ≤ sheet_room }
     ensures { result ≡ padded sheet_room sheet.now }
 {
-    let mut bytes = no_sheet();
-    let mut k = 0;
-    while k < sheet.len() {
-        bytes[k] = sheet[k];
-        k += 1;
-    }
+    let mut bytes = [0; SHEET_ROOM];
+    bytes[..sheet.len()].copy_from_slice(sheet);
     bytes
 }
 
 // The ranks of n points, by position, and zeros past them.
-fn padded_ranks(ranked: bool, ranks: &[u8], n: u8) -> [u8; MOST_POINTS]
+fn padded_ranks(ranks: Option<&[u8]>, n: u8) -> [u8; MOST_POINTS]
     requires { n ≤ most_points }
-    ensures { result ≡ padded most_points (ranks_below (rank_in (lent ranked ranks.now)) n) }
+    ensures { result ≡ padded most_points (ranks_below (rank_in (option_copied ranks.entry)) n) }
 {
-    let mut bytes = no_ranks();
-    let mut position: u8 = 0;
-    while position < n {
-        bytes[position as usize] = rank_of(ranked, ranks, position);
-        position += 1;
+    let mut bytes = [0; MOST_POINTS];
+    for position in 0..n {
+        bytes[usize::from(position)] = rank_of(ranks, position);
     }
     bytes
 }
 
-// A buffer with room for the largest plate.
-fn blank_plate() -> [u8; PLATE_ROOM]
-    ensures { result ≡ blank_plate }
-{
-    [0u8; PLATE_ROOM]
-}
+impl Held {
+    // What a desk without a sheet holds.
+    #[tactic(auto, unfolding(crate::specs::Desk::no_sheet, crate::specs::Desk::no_ranks))]
+    pub(crate) fn nothing() -> Held
+        ensures { result ≡ nothing_held }
+    {
+        Held {
+            sheet: [0; SHEET_ROOM],
+            ranks: [0; MOST_POINTS],
+            loaded: false,
+            spare: 0,
+            best: 0,
+        }
+    }
 
-// What a load of this sheet, with these ranks and this best sum, puts into the desk.
-fn held_of(sheet: &[u8], ranks: [u8; MOST_POINTS], best: u16) -> Held
-    requires { length sheet.now ≤ sheet_room }
-    ensures { result ≡ held_of sheet.now ranks best }
-{
-    Held {
-        sheet: padded_sheet(sheet),
-        ranks,
-        loaded: true,
-        spare: 0,
-        best,
+    // What a load of the sheet, with the ranks of the list if one is lent, puts there: its best sum is that of the inside positions of its
+    // best plate.
+    fn of(sheet: &[u8], ranks: Option<&[u8]>, workspace: &mut [u16]) -> Result<Held, Refusal>
+        ensures held { let s = sheet.now in let l = option_copied ranks.entry in
+            result ≡ answered (load_no s l (length workspace.old)) (held_of s (ranks_held s l) (best_sum (points_of s) (rank_in l))) }
+        ensures workspace { workspace.new
+            ≡ workspace_after (load_no sheet.now (option_copied ranks.entry) (length workspace.old)) workspace.old }
+    {
+        let mut plate = [0; PLATE_ROOM];
+        make_with(sheet, ranks, &mut plate, workspace)?;
+        let ranks = padded_ranks(ranks, format::point_count(sheet));
+        let best = inside_sum(&ranks, &plate);
+        Ok(Held {
+            sheet: padded_sheet(sheet),
+            ranks,
+            loaded: true,
+            spare: 0,
+            best,
+        })
     }
 }
 
-// The desk with something else held, and all else as it was.
-fn with_held(desk: Desk, held: Held) -> Desk
-    ensures { result ≡ with_held desk held }
-{
-    let mut next = desk;
-    next.held = held;
-    next
-}
-
-// A refused load: the desk is as it was.
-fn refused_load(desk: Desk, no: u8) -> LoadResult
-    ensures { (result.desk ≡ desk) × (result.answer ≡ LoadAnswer.Refused no) }
-{
-    let answer = LoadAnswer::Refused(no);
-    LoadResult { desk, answer }
-}
-
-// Loads a sheet, with the ranks of the list if one is lent: its best sum is that of the inside positions of its best plate.
-pub(crate) fn load_with(
-    desk: Desk,
-    sheet: &[u8],
-    ranked: bool,
-    ranks: &[u8],
-    workspace: &mut [u16],
-) -> LoadResult
-    ensures { Loading desk sheet.now (lent ranked ranks.now) workspace.old result
-        workspace.new }
-{
-    let mut plate = blank_plate();
-    match make_with(sheet, ranked, ranks, &mut plate, workspace) {
-        MakeAnswer::Refused(no) => refused_load(desk, no),
-        MakeAnswer::Made(_) => {
-            let held = padded_ranks(ranked, ranks, format::point_count(sheet));
-            let best = inside_sum(&held, &plate);
-            LoadResult {
-                desk: with_held(desk, held_of(sheet, held, best)),
-                answer: LoadAnswer::Accepted,
-            }
+impl Desk {
+    // Loads a sheet, with the ranks of the list if one is lent.
+    pub(crate) fn load_with(
+        self,
+        sheet: &[u8],
+        ranks: Option<&[u8]>,
+        workspace: &mut [u16],
+    ) -> After<Result<(), Refusal>>
+        ensures { Loading self sheet.now (option_copied ranks.entry) workspace.old result
+            workspace.new }
+    {
+        match Held::of(sheet, ranks, workspace) {
+            Ok(held) => After {
+                desk: Desk { held, ..self },
+                answer: Ok(()),
+            },
+            Err(refusal) => After {
+                desk: self,
+                answer: Err(refusal),
+            },
         }
     }
 }

@@ -10,7 +10,7 @@ use plate_reader::inside_positions;
 fn rank_at(ranks: &[u8], position: u8) -> u16
     ensures { (result ≡ rank_held ranks.now position) × (result ≤ 255) }
 {
-    byte_at(ranks, position as usize) as u16
+    u16::from(byte_at(ranks, usize::from(position)))
 }
 
 // The sum of the ranks of these positions.
@@ -18,13 +18,10 @@ pub(crate) fn sum_of(ranks: &[u8], positions: &[u8]) -> u16
     requires { length positions.now ≤ 255 }
     ensures { result ≡ sum_of (rank_held ranks.now) positions.now }
 {
-    let mut sum: u16 = 0;
-    let mut k = 0;
-    while k < positions.len() {
-        sum += rank_at(ranks, positions[k]);
-        k += 1;
-    }
-    sum
+    positions
+        .iter()
+        .map(|position| rank_at(ranks, *position))
+        .sum()
 }
 
 // The sum of the ranks of a plate's inside positions.

@@ -6,21 +6,23 @@ use native.Mathlib.Omega.{arith}
 use native.Mathlib.Numerals.{add-one}
 use Rattle.format.specs.Sizes.{most_points}
 use Rattle.format.specs.Padded.{padded}
-use Rattle.format.specs.RankList.{rank_in, lent}
-use Rattle.desk.specs.Desk.{ranks_below}
+use Rattle.std.specs.Prelude.{option_copied}
+use Rattle.format.specs.RankList.{rank_in}
+use Rattle.desk.specs.Desk.{no_ranks, ranks_below}
 use Rattle.desk.proofs.Loaded.{ranks-more}
 use Rattle.desk.proofs.Laws.{no-ranks-padded}
 use Rattle.desk.proofs.loading.padded_ranks.Goals as goal
 
 pub loop-position-init : goal.loop-position-init
-loop-position-init c = (search rules, c.no_ranks-bytes.ensures ∙ no-ranks-padded _)
+unfolding no_ranks
+loop-position-init c = (search rules, no-ranks-padded _)
 
 pub loop-position-preserved : goal.loop-position-preserved
 loop-position-preserved c =
     let p = c.loop-position.position in
     let args = c.args in
-    let rank = rank_in (lent args.ranked args.ranks.now) in (
+    let rank = rank_in (option_copied args.ranks) in (
       search rules,
-      ap₂ (λ b x. set b p x) c.loop-position.invariant.1 c.rank_of.ensures
-          ∙ (ranks-more rank most_points p (omega arith) ∙ ap (λ k. padded most_points (ranks_below rank k)) (sym (add-one p))),
+      rw c.from.ensures (ap₂ (λ b x. set b p x) c.loop-position.invariant.1 c.rank_of.ensures
+          ∙ (ranks-more rank most_points p (omega arith) ∙ ap (λ k. padded most_points (ranks_below rank k)) (sym (add-one p)))),
     )
