@@ -1,56 +1,47 @@
--- Texts put one after another. Assumes nothing.
-use mathlib.Core.Path.{◌≡◌}
-use mathlib.Core.Bool.{Bool, true, false}
-use mathlib.Core.List.{List, [], ◌∷◌}
-use Prim.Native.Nat.{ℕ, ◌+◌, ◌/◌, ◌%◌, ◌≤◌, ◌<◌}
-use lib.ListN.{length}
-use borrow.Author.Tests.{le-leb, lt-leb}
-use native.Mathlib.Nat.{le_refl}
-use native.Mathlib.Numerals.{add-one}
-use native.Mathlib.Omega.{arith}
-use Rattle.format.specs.Written.{written_if_room}
-use Rattle.format.proofs.Written.{written_none}
+-- Texts added one after another. Assumes nothing.
+use Rattle.std.specs.Prelude.{◌≡◌, Bool, true, false, List, [], ◌∷◌, ℕ, ◌+◌, ◌/◌, ◌%◌, ◌≤◌, ◌<◌, length}
+use Rattle.std.proofs.Common.{sym, append-nil, add-one, length-append, arith}
 use Rattle.lines.specs.Rooms.{point_room, points_room}
 use Rattle.lines.specs.Text.{ascii, digit, decimal, spaced}
-use Rattle.lines.proofs.Decimal.{decimal_step, decimal-length}
+use Rattle.lines.proofs.Decimal.{decimal-small, decimal_step, one-longer, decimal-length}
 use Rattle.lines.specs.Listing.{place, point_line, point_lines}
-use Rattle.lines.specs.Writing.{Prints, Put}
-use Rattle.lines.proofs.Writing.{put-more, put-looser}
+use Rattle.lines.specs.Writing.{Added}
+use Rattle.lines.proofs.Writing.{added_more}
 
--- a number of 16 bits with a digit more
-pub put-longer : {o o₁ o₂ : List ℕ} {at m r : ℕ} (n : ℕ) → n < 65536 → 10 ≤ n → at + 5 ≤ length o
-    → Put 5 o at (decimal (n / 10)) m o₁ → Put 1 o₁ m (digit (n % 10) ∷ []) r o₂ → Put 5 o at (decimal n) r o₂
-put-longer {o} {o₁} {o₂} {at} {m} {r} n f great room a b =
-    let all : Put 6 o at (decimal n) r o₂ = rw (decimal_step n great) (put-more room a b) in
-    record { fits = decimal-length n f; next-is = all.next-is; text-is = all.text-is }
+-- A NUMBER OF 16 BITS: one digit, or the number without its last digit and then that one, for which there is room
+pub added_small : {t t₁ : List ℕ} (n : ℕ) → n < 10 → Added 1 (digit n ∷ []) t t₁ → Added 5 (decimal n) t t₁
+added_small {t} {t₁} n s x =
+    let f : length t₁ ≤ length t + 1 = x.fits in
+    rw (decimal-small n s) (record { text-is = x.text-is; fits = omega arith })
+
+pub room_left : {room : ℕ} {t t₁ : List ℕ} (n : ℕ) → n < 65536 → 10 ≤ n → length t + 5 ≤ room → Added 5 (decimal (n / 10)) t t₁
+    → length t₁ + 1 ≤ room
+room_left {room} {t} n f great h x = rw (x.text-is, length-append) (omega (arith, one-longer n great, decimal-length n f))
+
+pub added_longer : {t t₁ t₂ : List ℕ} (n : ℕ) → n < 65536 → 10 ≤ n → Added 5 (decimal (n / 10)) t t₁
+    → Added 1 (digit (n % 10) ∷ []) t₁ t₂ → Added 5 (decimal n) t t₂
+added_longer {t} {t₁} {t₂} n f great a b =
+    let x : Added 6 (decimal n) t t₂ = rw (decimal_step n great) (added_more a b (omega arith)) in
+    record { text-is = x.text-is; fits = rw (x.text-is, length-append) (omega (arith, decimal-length n f)) }
 
 -- "`in`, or `out` and its margin column"
-module _ {o o₁ : List ℕ} {at m : ℕ} (inside : Bool) (margin : ℕ) where
-  pub place_in : inside ≡ true → Put 3 o at (ascii " in") m o₁ → Put 10 o at (place inside margin) m o₁
+module _ {t t₁ : List ℕ} (inside : Bool) (margin : ℕ) where
+  pub place_in : inside ≡ true → Added 3 (ascii " in") t t₁ → Added 10 (place inside margin) t t₁
   unfolding place
-  place_in e x = rw e (put-looser (omega arith) x)
+  place_in e x = let f : length t₁ ≤ length t + 3 = x.fits in rw e (record { text-is = x.text-is; fits = omega arith })
 
-  pub place_out : {o₂ : List ℕ} {n : ℕ} → inside ≡ false → at + 10 ≤ length o → Put 4 o at (ascii " out") m o₁
-      → Put 6 o₁ m (spaced margin) n o₂ → Put 10 o at (place inside margin) n o₂
+  pub place_out : {t₂ : List ℕ} → inside ≡ false → Added 4 (ascii " out") t t₁ → Added 6 (spaced margin) t₁ t₂
+      → Added 10 (place inside margin) t t₂
   unfolding place
-  place_out e room x y = rw e (put-more (omega arith) x y)
+  place_out e x y = rw e (added_more x y (omega arith))
 
 -- the lines of one point more
-pub point-more : {o o₁ o₂ : List ℕ} {at m n : ℕ} (p : List ℕ) (i : ℕ) → at + points_room (i + 1) ≤ length o
-    → Put (points_room i) o at (point_lines p i) m o₁ → Put point_room o₁ m (point_line p i) n o₂
-    → Put (points_room (i + 1)) o at (point_lines p (i + 1)) n o₂
+pub point_more : {t t₁ t₂ : List ℕ} (p : List ℕ) (i : ℕ) → Added (points_room i) (point_lines p i) t t₁
+    → Added point_room (point_line p i) t₁ t₂ → Added (points_room (i + 1)) (point_lines p (i + 1)) t t₂
 unfolding point_lines
-point-more p i room x y = rw (add-one i) (put-looser (omega arith) (put-more (omega arith) x y))
+point_more p i x y = rw (add-one i) (added_more x y (omega arith))
 
 -- no point's line
-pub point-none : (o p : List ℕ) (at : ℕ) → Put 0 o at (point_lines p 0) at o
+pub point_none : (t p : List ℕ) → Added (points_room 0) (point_lines p 0) t t
 unfolding point_lines
-point-none o p at = record { fits = omega arith; next-is = omega arith; text-is = written_none o at }
-
--- A TEXT COPIED, if it fits
-module _ {l o o' : List ℕ} (e : o' ≡ written_if_room o 0 l) where
-  pub copied_all : length l ≤ length o → Prints (length l) l o (length l) o'
-  copied_all h = record { fits = le_refl (length l); answer-is = rw (le-leb (length l) (length o) h); buffer-is = e }
-
-  pub copied_none : length o < length l → Prints (length l) l o 0 o'
-  copied_none h = record { fits = le_refl (length l); answer-is = rw (lt-leb (length l) (length o) h); buffer-is = e }
+point_none t p = record { text-is = sym (append-nil t); fits = omega arith }

@@ -1,16 +1,16 @@
 -- Texts worked out by hand: one table of listings, and a line of each kind of the desk's. Assumes nothing.
-use Rattle.std.specs.Prelude.{◌≡◌, refl, Bool, true, ◌&&◌, List, [], ◌∷◌, ◌++◌, ℕ, replicate}
+use Rattle.std.specs.Prelude.{◌≡◌, refl, Bool, true, ◌&&◌, List, [], ◌∷◌, ◌++◌, ℕ, replicate, Ok, Err}
 use Rattle.labeling.specs.Points.{among}
 use Rattle.labeling.proofs.Decide.{and_left, and_right}
+use Rattle.format.specs.declared.refusal.Refusal.TheVariants.{WorkspaceRoom, NoSheet, RankCount}
 use Rattle.format.specs.Bytes.{same_bytes}
 use Rattle.format.proofs.Bytes.{dec-bytes}
 use Rattle.format.specs.Padded.{padded}
 use Rattle.format.specs.Sheet.{two_bytes}
 use Rattle.clash.specs.declared.ClashKind.TheVariants.{Labels, LabelAndLeader, Overhang, TwoLeaders}
-use Rattle.desk.specs.Desk.{held_of, with_held, fresh}
+use Rattle.desk.specs.Desk.{MarkAnswer, held_of, with_held, fresh}
 use Rattle.desk.specs.declared.Desk.{Desk}
-use Rattle.desk.specs.declared.LoadAnswer.TheVariants.{Accepted, Refused}
-use Rattle.desk.specs.declared.MarkAnswer.TheVariants.{Marked, Refused as RefusedMark}
+use Rattle.desk.specs.declared.Verdict.{Verdict}
 use Rattle.desk.specs.declared.Verdict.TheVariants.{Valid, Clash}
 use Rattle.plate_reader.proofs.Cases.{sheet, sheet1, sheet2, sheet_of_five, stacked}
 use Rattle.plate_reader.specs.PlateQuestions.{inside_list, outside_pairs}
@@ -81,21 +81,24 @@ twelve = with_held fresh (held_of (1 ∷ 20 ∷ 0 ∷ 10 ∷ 0 ∷ 4 ∷ 0 ∷ 2
 abbrev greatest : Desk
 greatest = with_held fresh (held_of (1 ∷ 20 ∷ 0 ∷ 10 ∷ 0 ∷ 4 ∷ 0 ∷ 2 ∷ 0 ∷ 32 ∷ []) (replicate 32 9) 288)
 
-pub load-lines : (load_line Accepted twelve ≡ ascii "loaded 12 10\n") × (load_line Accepted greatest ≡ ascii "loaded 32 288\n")
-    × (load_line (Refused 22) twelve ≡ ascii "refused 22\n") × (load_line (Refused 62) twelve ≡ ascii "refused 62\n")
+pub load-lines : (load_line (Ok tt) twelve ≡ ascii "loaded 12 10\n") × (load_line (Ok tt) greatest ≡ ascii "loaded 32 288\n")
+    × (load_line (Err WorkspaceRoom) twelve ≡ ascii "refused 22\n") × (load_line (Err RankCount) twelve ≡ ascii "refused 62\n")
 unfolding padded decimal_in decimal spaced refusal_line loaded_line
 load-lines = (refl, refl, refl, refl)
 
+abbrev marked : ℕ → Verdict → MarkAnswer
+marked number verdict = Ok (record { number = number; verdict = verdict })
+
 -- "On P1, a fresh desk gives list 02 01 02 number 1, count 2, shortfall 0; 01 00 number 2, clash of 0 and 1; 00 number 3, shortfall 2."
 pub mark-lines :
-    (mark_line (Marked 1 (Valid 2 0)) ≡ ascii "1 valid 2 0\n") ×
-    (mark_line (Marked 2 (Clash 0 1 LabelAndLeader)) ≡ ascii "2 clash 0 1 leader\n") ×
-    (mark_line (Marked 3 (Valid 0 2)) ≡ ascii "3 valid 0 2\n") ×
-    (mark_line (Marked 120 (Clash 9 31 Labels)) ≡ ascii "120 clash 9 31 labels\n") ×
-    (mark_line (Marked 4 (Clash 0 0 Overhang)) ≡ ascii "4 clash 0 0 overhang\n") ×
-    (mark_line (Marked 5 (Clash 0 1 TwoLeaders)) ≡ ascii "5 clash 0 1 leaders\n") ×
-    (mark_line (Marked 6 (Valid 288 0)) ≡ ascii "6 valid 288 0\n") ×
-    (mark_line (Marked 7 (Valid 0 288)) ≡ ascii "7 valid 0 288\n") ×
-    (mark_line (RefusedMark 51) ≡ ascii "refused 51\n")
+    (mark_line (marked 1 (Valid 2 0)) ≡ ascii "1 valid 2 0\n") ×
+    (mark_line (marked 2 (Clash 0 1 LabelAndLeader)) ≡ ascii "2 clash 0 1 leader\n") ×
+    (mark_line (marked 3 (Valid 0 2)) ≡ ascii "3 valid 0 2\n") ×
+    (mark_line (marked 120 (Clash 9 31 Labels)) ≡ ascii "120 clash 9 31 labels\n") ×
+    (mark_line (marked 4 (Clash 0 0 Overhang)) ≡ ascii "4 clash 0 0 overhang\n") ×
+    (mark_line (marked 5 (Clash 0 1 TwoLeaders)) ≡ ascii "5 clash 0 1 leaders\n") ×
+    (mark_line (marked 6 (Valid 288 0)) ≡ ascii "6 valid 288 0\n") ×
+    (mark_line (marked 7 (Valid 0 288)) ≡ ascii "7 valid 0 288\n") ×
+    (mark_line (Err NoSheet) ≡ ascii "refused 51\n")
 unfolding decimal_in decimal spaced refusal_line valid_text clash_text marked_line
 mark-lines = (refl, refl, refl, refl, refl, refl, refl, refl, refl)

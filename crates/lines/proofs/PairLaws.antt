@@ -1,52 +1,53 @@
--- Facts about outside pairs, for the loops that go through them. Assumes nothing.
-use mathlib.Core.Path.{◌≡◌, refl, sym, ap, ◌∙◌}
-use mathlib.Core.List.{List, [], ◌∷◌}
-use Prim.Native.Nat.{ℕ, ◌+◌, ◌≤◌, ◌<◌, max}
-use lib.ListN.{length, get_or, drop, length-drop}
-use borrow.Author.Tests.{eq-eqb, ne_eqb}
-use native.Mathlib.Omega.{arith}
-use Rattle.format.proofs.Bytes.{pair-after}
+-- Facts about outside pairs, for the chains that go through them. Assumes nothing.
+use Rattle.std.specs.Prelude.{◌≡◌, refl, cond, List, [], ◌∷◌, ℕ, suc, ◌+◌, ◌/◌, max, eqb, length, slice_index, find, fold, Option, None, Some, MatchOption, unwrap_or, true, false}
+use Rattle.std.proofs.Common.{ap, ◌∙◌, arith}
+use Rattle.std.specs.Simd.{first_chunks}
+use Rattle.std.specs.Option.{option_map}
 use Rattle.lines.specs.Listing.{margins, used, columns_used, margin_of}
 
+-- Whole pairs, as the code lends them.
+abbrev pub pairs_of : List ℕ → List (List ℕ)
+pairs_of l = first_chunks 2 (length l / 2) l
+
+pair-first : (i k : ℕ) (l : List ℕ) → pairs_of (i ∷ k ∷ l) ≡ (i ∷ k ∷ []) ∷ pairs_of l
+pair-first i k l = let e : length (i ∷ k ∷ l) / 2 ≡ suc (length l / 2) = omega arith in ap (λ n. first_chunks 2 n (i ∷ k ∷ l)) e
+
 -- COLUMNS USED
+
+-- What a pair asks for: its margin column plus 1.
+abbrev pub next_column : List ℕ → ℕ
+next_column p = slice_index p 1 + 1
 
 used-more : (k : ℕ) (l : List ℕ) → used (k ∷ l) ≡ max (k + 1) (used l)
 used-more k [] = omega arith
 used-more k (j ∷ l) = omega arith
 
-columns-none : (l : List ℕ) → length l ≤ 1 → columns_used l ≡ 0
+columns-from : (u : ℕ) (l : List ℕ) → fold (λ a p. max a (next_column p)) u (pairs_of l) ≡ max u (columns_used l)
 unfolding columns_used
-columns-none [] h = refl
-columns-none (i ∷ []) h = refl
-columns-none (i ∷ k ∷ l) h = absurd (omega arith)
+columns-from u [] = omega arith
+columns-from u (i ∷ []) = omega arith
+columns-from u (i ∷ k ∷ l) =
+    ap (fold (λ a p. max a (next_column p)) u) (pair-first i k l)
+    ∙ columns-from (max u (k + 1)) l
+    ∙ (let e = used-more k (margins l) in omega arith)
 
-module _ (l : List ℕ) (at u : ℕ) (e : max u (columns_used (drop at l)) ≡ columns_used l) where
-  pub columns-more : at + 1 < length l → max (max u (get_or l (at + 1) 0 + 1)) (columns_used (drop (at + 2) l)) ≡ columns_used l
-  unfolding columns_used
-  columns-more h =
-      let p : columns_used (drop at l) ≡ max (get_or l (at + 1) 0 + 1) (columns_used (drop (at + 2) l)) =
-      ap columns_used (pair-after at l h) ∙ used-more (get_or l (at + 1) 0) (margins (drop (at + 2) l)) in
-      omega arith
-
-  pub columns-end : length l ≤ at + 1 → u ≡ columns_used l
-  columns-end h = omega (arith, columns-none (drop at l) (rw (length-drop at l) (omega arith)))
+pub columns-folded : (l : List ℕ) → fold (λ a p. max a (next_column p)) 0 (pairs_of l) ≡ columns_used l
+columns-folded l = columns-from 0 l ∙ omega arith
 
 -- THE MARGIN COLUMN OF A POSITION
 
-margin-none : (i : ℕ) (l : List ℕ) → length l ≤ 1 → margin_of i l ≡ 0
+pub margin-found : (i : ℕ) (l : List ℕ)
+    → unwrap_or (option_map (λ p. slice_index p 1) (find (λ p. eqb i (slice_index p 0)) (pairs_of l))) 0 ≡ margin_of i l
 unfolding margin_of
-margin-none i [] h = refl
-margin-none i (j ∷ []) h = refl
-margin-none i (j ∷ k ∷ l) h = absurd (omega arith)
+margin-found i [] = refl
+margin-found i (j ∷ []) = refl
+margin-found i (j ∷ k ∷ l) =
+    let rest : Option (List ℕ) = find (λ p. eqb i (slice_index p 0)) (pairs_of l) in
+    rw (pair-first j k l)
+    (elim (eqb i j) as (λ b. unwrap_or (option_map (λ p. slice_index p 1) (cond b (Some (j ∷ k ∷ [])) rest)) 0 ≡ cond b k (margin_of i l))
+    [ true ↦ refl | false ↦ margin-found i l ])
 
-module _ (i : ℕ) (l : List ℕ) (at : ℕ) where
-  pub margin-found : at + 1 < length l → get_or l at 0 ≡ i → margin_of i (drop at l) ≡ get_or l (at + 1) 0
-  unfolding margin_of
-  margin-found h e = rw (pair-after at l h, eq-eqb i (get_or l at 0) (sym e))
-
-  pub margin-more : at + 1 < length l → (get_or l at 0 ≡ i → ⊥) → margin_of i (drop at l) ≡ margin_of i (drop (at + 2) l)
-  unfolding margin_of
-  margin-more h ne = rw (pair-after at l h, ne_eqb i (get_or l at 0) (λ e. ne (sym e)))
-
-  pub margin-end : length l ≤ at + 1 → margin_of i (drop at l) ≡ 0
-  margin-end h = margin-none i (drop at l) (rw (length-drop at l) (omega arith))
+pub found-value : {A : Type 0} (o : Option A) (v : A → List ℕ) (r : ℕ) → MatchOption o (r ≡ 0) (λ x. r ≡ slice_index (v x) 1)
+    → r ≡ unwrap_or (option_map (λ p. slice_index p 1) (option_map v o)) 0
+found-value None v r e = e
+found-value (Some x) v r e = e

@@ -1,14 +1,12 @@
 -- The lines of a refusal and of the desk's answers: `refused K`, `loaded N BEST`, `NUMBER valid SUM SHORTFALL` and
 -- `NUMBER clash FIRST SECOND KIND`. Assumes nothing.
-use Rattle.std.specs.Prelude.{List, ◌++◌, ℕ}
+use Rattle.std.specs.Prelude.{List, ◌++◌, ℕ, Ok, Err}
+use Rattle.format.specs.Answers.{number}
 use Rattle.format.specs.Sheet.{point_count}
 use Rattle.clash.specs.declared.ClashKind.{ClashKind}
 use Rattle.clash.specs.declared.ClashKind.TheVariants.{Labels, LabelAndLeader, Overhang, TwoLeaders}
+use Rattle.desk.specs.Desk.{LoadAnswer, MarkAnswer}
 use Rattle.desk.specs.declared.Desk.{Desk}
-use Rattle.desk.specs.declared.LoadAnswer.{LoadAnswer}
-use Rattle.desk.specs.declared.LoadAnswer.TheVariants.{Accepted, Refused}
-use Rattle.desk.specs.declared.MarkAnswer.{MarkAnswer}
-use Rattle.desk.specs.declared.MarkAnswer.TheVariants.{Marked, Refused as RefusedMark}
 use Rattle.desk.specs.declared.Verdict.{Verdict}
 use Rattle.desk.specs.declared.Verdict.TheVariants.{Valid, Clash}
 use Rattle.lines.specs.Text.{ascii, decimal, spaced}
@@ -23,8 +21,8 @@ loaded_line d = ascii "loaded" ++ spaced (point_count d.held.sheet) ++ spaced d.
 
 -- The line of a load with this answer, which gave the desk d.
 abbrev pub load_line : LoadAnswer → Desk → List ℕ
-load_line Accepted d = loaded_line d
-load_line (Refused k) d = refusal_line k
+load_line (Ok x) d = loaded_line d
+load_line (Err r) d = refusal_line (number r)
 
 -- "whether two labels met or a label met a leader"; an overhang "gets its own kind" (document 02 (a)); "a mark can name two leaders as its
 -- clash" (document 02 (c))
@@ -52,5 +50,5 @@ marked_line number verdict = decimal number ++ verdict_text verdict ++ ascii "\n
 
 -- The line of a mark with this answer.
 abbrev pub mark_line : MarkAnswer → List ℕ
-mark_line (Marked number verdict) = marked_line number verdict
-mark_line (RefusedMark k) = refusal_line k
+mark_line (Ok m) = marked_line m.number m.verdict
+mark_line (Err r) = refusal_line (number r)

@@ -1,16 +1,15 @@
 // What the programs print, as bytes in a lent buffer. Each call answers the length of its text; or the buffer is too short for it, nothing
-// is written, and the answer is 0.
+// is written, and the answer is 0. No text is empty, and C is handed the length as it is: so 0, as `Prints` says, and no Option.
 #![tactic(auto)]
 
-ghost use Rattle.std.specs.Prelude.{◌≡◌, length};
-ghost use Rattle.lines.specs.Rooms.{line_room, listing_room, most_points};
-ghost use Rattle.lines.specs.DeskLines.{refusal_line, loaded_line, load_line, marked_line, mark_line};
+ghost use Rattle.lines.specs.Rooms.{line_room};
+ghost use Rattle.lines.specs.DeskLines.{refusal_line, load_line, mark_line};
 ghost use Rattle.lines.specs.Writing.{Prints, PrintsListing};
 
-use desk::{Desk, LoadAnswer, MarkAnswer, Verdict};
-use desk_lines::{put_loaded, put_marked, put_refusal};
-use plate_lines::put_listing;
-use text::fit;
+use desk::{Desk, Marked};
+use desk_lines::{loaded, marked, refusal};
+use format::Refusal;
+use plate_lines::listed;
 
 mod desk_lines;
 mod margins;
@@ -22,71 +21,39 @@ mod text;
 pub const LINE_ROOM: usize = 33;
 
 // Room for every listing: line one has at most 24 bytes, and each of at most 255 points at most 16.
-const LISTING_ROOM: usize = 4104;
-
-fn listing_room() -> [u8; LISTING_ROOM]
-    ensures { listing_room most_points ≡ length result }
-{
-    [0; LISTING_ROOM]
-}
-
-fn line_room() -> [u8; LINE_ROOM]
-    ensures { line_room ≡ length result }
-{
-    [0; LINE_ROOM]
-}
+const LISTING_ROOM: usize = 24 + 16 * 255;
 
 // The listing of a plate: points, inside count and margin columns used; then each point in sheet order. For n points 24 + 16 · n bytes are
 // enough.
 pub fn listing(plate: &[u8], buffer: &mut [u8]) -> usize
     ensures { PrintsListing plate.now buffer.old result buffer.new }
 {
-    let mut room = listing_room();
-    let length = put_listing(&mut room, plate);
-    fit(&room[..length], buffer)
+    listed(plate).print(buffer)
 }
 
-// The line of a refusal.
+// The line of a refusal with this number: any byte, since its promise is about every number.
 pub fn refusal_line(no: u8, buffer: &mut [u8]) -> usize
     ensures { Prints 14 (refusal_line no) buffer.old result buffer.new }
 {
-    let mut room = line_room();
-    let length = put_refusal(&mut room, no);
-    fit(&room[..length], buffer)
-}
-
-fn loaded_line(desk: Desk, buffer: &mut [u8]) -> usize
-    ensures { Prints 19 (loaded_line desk) buffer.old result buffer.new }
-{
-    let mut room = line_room();
-    let length = put_loaded(&mut room, desk);
-    fit(&room[..length], buffer)
-}
-
-fn marked_line(number: u16, verdict: Verdict, buffer: &mut [u8]) -> usize
-    ensures { Prints line_room (marked_line number verdict) buffer.old result buffer.new }
-{
-    let mut room = line_room();
-    let length = put_marked(&mut room, number, verdict);
-    fit(&room[..length], buffer)
+    refusal(no).print(buffer)
 }
 
 // The line of a load with this answer, which gave the desk.
-pub fn load_line(answer: LoadAnswer, desk: Desk, buffer: &mut [u8]) -> usize
+pub fn load_line(answer: Result<(), Refusal>, desk: Desk, buffer: &mut [u8]) -> usize
     ensures { Prints line_room (load_line answer desk) buffer.old result buffer.new }
 {
     match answer {
-        LoadAnswer::Accepted => loaded_line(desk, buffer),
-        LoadAnswer::Refused(no) => refusal_line(no, buffer),
+        Ok(()) => loaded(desk).print(buffer),
+        Err(no) => refusal_line(u8::from(no), buffer),
     }
 }
 
 // The line of a mark with this answer.
-pub fn mark_line(answer: MarkAnswer, buffer: &mut [u8]) -> usize
+pub fn mark_line(answer: Result<Marked, Refusal>, buffer: &mut [u8]) -> usize
     ensures { Prints line_room (mark_line answer) buffer.old result buffer.new }
 {
     match answer {
-        MarkAnswer::Marked { number, verdict } => marked_line(number, verdict, buffer),
-        MarkAnswer::Refused(no) => refusal_line(no, buffer),
+        Ok(Marked { number, verdict }) => marked(number, verdict).print(buffer),
+        Err(no) => refusal_line(u8::from(no), buffer),
     }
 }

@@ -1,52 +1,50 @@
 // The listing of a plate.
-ghost use Rattle.std.specs.Prelude.{◌+◌, ◌≤◌, length};
+ghost use Rattle.std.specs.Prelude.{[], ◌+◌, ◌≤◌, length};
+ghost use Rattle.format.specs.Sheet.{point_count};
 ghost use Rattle.lines.specs.Rooms.{first_line_room, points_room, listing_room, most_points};
-ghost use Rattle.lines.specs.Listing.{first_line};
-ghost use Rattle.lines.specs.Writing.{Put, PutPoints, PutListing};
+ghost use Rattle.lines.specs.Listing.{first_line, point_lines, listing_of};
+ghost use Rattle.lines.specs.Writing.{Added};
 
+use crate::LISTING_ROOM;
 use crate::margins::columns_used;
-use crate::points::put_point;
-use crate::text::{put_end, put_number, put_word};
+use crate::points::add_point;
+use crate::text::Text;
 use clash::choice_of;
 use format::point_count;
 use plate_reader::{inside_count, inside_positions, outside_pairs};
 
 // Each point in sheet order: at most 255 of them, with at most 16 bytes each.
-fn put_points(text: &mut [u8], at: usize, plate: &[u8]) -> usize
-    requires { at + points_room most_points ≤ length text.old }
-    ensures put_points { PutPoints plate.now text.old at result text.new }
-    ensures upper_bound { result ≤ at + points_room most_points }
+#[tactic(auto, using(crate::proofs::Laws::point_none, crate::proofs::Laws::point_more))]
+fn add_points(text: &mut Text<LISTING_ROOM>, plate: &[u8])
+    requires { length text.old + points_room most_points ≤ listing_room most_points }
+    ensures { Added (points_room (point_count plate.now)) (point_lines plate.now (point_count plate.now)) text.old text.new }
 {
-    let n = point_count(plate);
     let inside = choice_of(inside_positions(plate));
     let pairs = outside_pairs(plate);
-    let mut next = at;
-    let mut position: u8 = 0;
-    while position < n {
-        next = put_point(text, next, plate, &inside, pairs, position);
-        position += 1;
+    for position in 0..point_count(plate) {
+        add_point(text, plate, &inside, pairs, position);
     }
-    next
 }
 
 // Points, inside count and margin columns used.
-fn put_first_line(text: &mut [u8], plate: &[u8]) -> usize
-    requires { first_line_room ≤ length text.old }
-    ensures { Put first_line_room text.old 0 (first_line plate.now) result text.new }
+#[tactic(auto, using(crate::proofs::Writing::added_more), unfolding(crate::specs::Listing::first_line))]
+fn add_first_line(text: &mut Text<LISTING_ROOM>, plate: &[u8])
+    requires { length text.old + first_line_room ≤ listing_room most_points }
+    ensures { Added first_line_room (first_line plate.now) text.old text.new }
 {
-    let word = put_word(text, 0, b"plate");
-    let points = put_number(text, word, point_count(plate) as u16);
-    let inside = put_number(text, points, inside_count(plate) as u16);
-    let columns = put_number(text, inside, columns_used(outside_pairs(plate)));
-    put_end(text, columns)
+    text.word(b"plate");
+    text.number(u16::from(point_count(plate)));
+    text.number(u16::from(inside_count(plate)));
+    text.number(columns_used(outside_pairs(plate)));
+    text.end();
 }
 
-// The listing at the start of the text, and its length.
-pub(crate) fn put_listing(text: &mut [u8], plate: &[u8]) -> usize
-    requires { listing_room most_points ≤ length text.old }
-    ensures put_listing { PutListing plate.now text.old result text.new }
-    ensures upper_bound { result ≤ listing_room most_points }
+#[tactic(auto, using(crate::proofs::Writing::added_more), unfolding(crate::specs::Listing::listing_of))]
+pub(crate) fn listed(plate: &[u8]) -> Text<LISTING_ROOM>
+    ensures { Added (listing_room (point_count plate.now)) (listing_of plate.now) [] result }
 {
-    let next = put_first_line(text, plate);
-    put_points(text, next, plate)
+    let mut text = Text::new();
+    add_first_line(&mut text, plate);
+    add_points(&mut text, plate);
+    text
 }

@@ -1,69 +1,86 @@
-// Words and numbers put into a buffer, from a place on where it has room for them. Each function gives the place after what it puts.
-ghost use Rattle.std.specs.Prelude.{◌≡◌, [], ◌∷◌, ◌+◌, ◌<◌, ◌≤◌, length};
-ghost use Rattle.lines.specs.Text.{ascii, digit as digit_of, decimal, spaced};
-ghost use Rattle.lines.specs.Writing.{Prints, Put};
+// A text in a buffer of its own, of at most N bytes: words and numbers go to its end. Nothing here allocates, so it is no String.
+ghost use Rattle.std.specs.Prelude.{◌≡◌, ℕ, List, [], ◌+◌, ◌≤◌, length, take};
+ghost use Rattle.lines.specs.Text.{ascii, decimal, spaced};
+ghost use Rattle.lines.specs.Writing.{Prints, Added};
 
 use format::copy_to;
+use std::marker::Model;
 
-pub(crate) fn put_word(text: &mut [u8], at: usize, word: &[u8]) -> usize
-    requires { at + length word.now ≤ length text.old }
-    ensures { Put (length word.now) text.old at word.now result text.new }
-{
-    copy_to(word, text, at);
-    at + word.len()
+// In a clause a text is the list of its bytes.
+#[derive(Drop)]
+pub(crate) struct Text<const N: usize> {
+    bytes: [u8; N],
+    length: usize,
 }
 
-// The code of a digit.
-fn digit(value: u16) -> u8
-    requires { value < 10 }
-    ensures { result ≡ digit_of value }
-{
-    48 + value as u8
+impl<const N: usize> Model for Text<N> {
+    ghost Value = { List ℕ };
+
+    ghost view = { λ t. take t.length t.bytes };
+
+    ghost invariant = { λ t. t.length ≤ N };
 }
 
-fn put_digit(text: &mut [u8], at: usize, value: u16) -> usize
-    requires { (value < 10) × (at < length text.old) }
-    ensures { Put 1 text.old at (digit_of value ∷ []) result text.new }
-{
-    text[at] = digit(value);
-    at + 1
-}
-
-pub(crate) fn put_decimal(text: &mut [u8], at: usize, number: u16) -> usize
-    requires { at + 5 ≤ length text.old }
-    ensures { Put 5 text.old at (decimal number) result text.new }
-{
-    if number < 10 {
-        return put_digit(text, at, number);
+impl<const N: usize> Text<N> {
+    pub(crate) fn new() -> Self
+        ensures { result ≡ [] }
+    {
+        Text {
+            bytes: [0; N],
+            length: 0,
+        }
     }
-    let last = put_decimal(text, at, number / 10);
-    put_digit(text, last, number % 10)
-}
 
-// A number after a space.
-pub(crate) fn put_number(text: &mut [u8], at: usize, number: u16) -> usize
-    requires { at + 6 ≤ length text.old }
-    ensures { Put 6 text.old at (spaced number) result text.new }
-{
-    let next = put_word(text, at, b" ");
-    put_decimal(text, next, number)
-}
-
-// Ends the line.
-pub(crate) fn put_end(text: &mut [u8], at: usize) -> usize
-    requires { at + 1 ≤ length text.old }
-    ensures { Put 1 text.old at (ascii "\n") result text.new }
-{
-    put_word(text, at, b"\n")
-}
-
-// Copies a text into a lent buffer, if it fits.
-pub(crate) fn fit(text: &[u8], buffer: &mut [u8]) -> usize
-    ensures { Prints (length text.now) text.now buffer.old result buffer.new }
-{
-    copy_to(text, buffer, 0);
-    if buffer.len() < text.len() {
-        return 0;
+    pub(crate) fn word(&mut self, word: &[u8])
+        requires { length self.old + length word.now ≤ N }
+        ensures { Added (length word.now) word.now self.old self.new }
+    {
+        let end = self.length + word.len();
+        let bytes = &mut self.bytes[..];
+        bytes[self.length..end].copy_from_slice(word);
+        self.length = end;
     }
-    text.len()
+
+    // By hand, since no clause says that `write!` succeeds where there is room: what a text holds would be known only where it did.
+    #[tactic(auto, using(crate::proofs::Laws::added_small))]
+    pub(crate) fn decimal(&mut self, number: u16)
+        requires { length self.old + 5 ≤ N }
+        ensures { Added 5 (decimal number) self.old self.new }
+    {
+        if number < 10 {
+            return self.word(&[b'0' + number as u8]);
+        }
+        self.decimal(number / 10);
+        self.word(&[b'0' + (number % 10) as u8]);
+    }
+
+    // A number after a space.
+    #[tactic(auto, using(crate::proofs::Writing::added_more), unfolding(crate::specs::Text::spaced))]
+    pub(crate) fn number(&mut self, number: u16)
+        requires { length self.old + 6 ≤ N }
+        ensures { Added 6 (spaced number) self.old self.new }
+    {
+        self.word(b" ");
+        self.decimal(number);
+    }
+
+    // Ends the line.
+    pub(crate) fn end(&mut self)
+        requires { length self.old + 1 ≤ N }
+        ensures { Added 1 (ascii "\n") self.old self.new }
+    {
+        self.word(b"\n");
+    }
+
+    // Copies the text into a lent buffer, if it fits.
+    pub(crate) fn print(&self, buffer: &mut [u8]) -> usize
+        ensures { Prints (length self.now) self.now buffer.old result buffer.new }
+    {
+        let text = &self.bytes[..self.length];
+        copy_to(text, buffer, 0);
+        if buffer.len() < text.len() {
+            return 0;
+        }
+        text.len()
+    }
 }
