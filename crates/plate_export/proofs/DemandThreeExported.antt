@@ -1,30 +1,30 @@
 -- DEMAND 3 OF THE EXPORTED CALLS: the desk after any calls and the plates made, of which its theorem speaks, are what the exported calls
 -- hand back and write. Assumes nothing.
-use Rattle.std.specs.Prelude.{◌≡◌, refl, false, List, ℕ, ◌≤◌, ◌<◌, length, take}
+use Rattle.std.specs.Prelude.{◌≡◌, refl, false, List, ℕ, ◌≤◌, ◌<◌, length, take, Option, Ok, Err}
 use Rattle.std.proofs.Common.{sym, ap, ◌∙◌}
-use Rattle.std.proofs.Math.Option.{Option}
 use Rattle.format.specs.Sheet.{point_count}
 use Rattle.format.specs.Accepted.{UpTo}
 use Rattle.format.specs.MakingQuestions.{making_no}
 use Rattle.plate_maker.specs.Making.{make_outcome_of}
-use Rattle.plate_maker.specs.declared.MakeAnswer.TheVariants.{Made}
-use Rattle.desk.specs.Desk.{rank_held, mark_of}
+use Rattle.desk.specs.Desk.{MarkAnswer, rank_held, mark_of}
 use Rattle.desk.specs.declared.Desk.{Desk}
-use Rattle.desk.specs.declared.MarkAnswer.{MarkAnswer}
-use Rattle.desk.specs.declared.MarkAnswer.TheVariants.{Marked, Refused}
+use Rattle.desk.specs.declared.Verdict.{Verdict}
 use Rattle.desk.specs.declared.Verdict.TheVariants.{Valid, Clash}
 use Rattle.desk.specs.Calls.{load, mark, Calls, no_calls, ◌and_then◌, desk_after, PlateMade}
 use Rattle.desk.proofs.DemandThreeProof.{spare-zero as desk-spare-zero, best-held as desk-best-held, ranks-held as desk-ranks-held}
 use Rattle.plate_export.specs.declared.MakeResult.{MakeResult}
 use Rattle.plate_export.specs.Exported.{MakingExported}
-use Rattle.plate_export.specs.ExportedDesk.{answer_reply}
+use Rattle.plate_export.specs.ExportedDesk.{verdict_reply, answer_reply}
 use Rattle.plate_export.specs.DemandThreeExported.{handed_back, exported_after}
 
 -- the desk in a mark's reply is the one handed back, whatever the answer
+verdict-desk : (d : Desk) (k : ℕ) (v : Verdict) → (verdict_reply d k v).desk ≡ d
+verdict-desk d k (Valid sum shortfall) = refl
+verdict-desk d k (Clash first second kind) = refl
+
 reply-desk : (d : Desk) (a : MarkAnswer) → (answer_reply d a).desk ≡ d
-reply-desk d (Marked k (Valid sum shortfall)) = refl
-reply-desk d (Marked k (Clash first second kind)) = refl
-reply-desk d (Refused k) = refl
+reply-desk d (Ok m) = verdict-desk d m.number m.verdict
+reply-desk d (Err r) = refl
 
 -- It is demand 3's desk after these calls. So the next exported call answers as demand 3 says.
 pub exported-desk-after : (calls : Calls) → exported_after calls ≡ desk_after calls
@@ -54,7 +54,7 @@ exported-plate-made {s} {l} {o} {w} {o'} {w'} r m z =
     record {
       output = o;
       workspace = w;
-      answer = Made r.written;
+      answer = Ok r.written;
       output-after = o';
       workspace-after = w';
       made = record {

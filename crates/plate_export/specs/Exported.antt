@@ -1,19 +1,18 @@
 -- What the exported calls answer, in the definitions of the calls inside. Assumes nothing.
-use Rattle.std.specs.Prelude.{◌≡◌, List, ℕ, length}
-use Rattle.std.proofs.Math.Option.{Option}
+use Rattle.std.specs.Prelude.{◌≡◌, List, ℕ, length, Option, Result, Ok, Err}
+use Rattle.format.specs.declared.refusal.Refusal.{Refusal}
+use Rattle.format.specs.Answers.{number}
 use Rattle.plate_reader.specs.PlateQuestions.{plate_no, handed_back_at}
 use Rattle.plate_reader.specs.PlateAnswers.{plate_outcome_of}
 use Rattle.format.specs.MakingQuestions.{making_no, workspace_after, output_after}
 use Rattle.plate_maker.specs.Making.{make_outcome_of}
-use Rattle.plate_maker.specs.declared.MakeAnswer.{MakeAnswer}
-use Rattle.plate_maker.specs.declared.MakeAnswer.TheVariants.{Made, Refused}
 use Rattle.plate_export.specs.declared.MakeResult.{MakeResult}
 use Rattle.plate_export.specs.declared.ReadResult.{ReadResult}
 
 -- A making's answer as numbers.
-abbrev pub make_reply : MakeAnswer → MakeResult
-make_reply (Made written) = record { number = 0; spare = 0; written = written }
-make_reply (Refused k) = record { number = k; spare = 0; written = 0 }
+abbrev pub make_reply : Result ℕ Refusal → MakeResult
+make_reply (Ok written) = record { number = 0; spare = 0; written = written }
+make_reply (Err r) = record { number = number r; spare = 0; written = 0 }
 
 -- plate_make and plate_make_ranked: the promise of make and make_ranked, with the answer as the numbers of its outcome. l is the rank list,
 -- or none.

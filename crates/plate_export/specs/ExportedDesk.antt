@@ -1,13 +1,11 @@
 -- What the desk's exported calls answer, in the definitions of the crate desk. Assumes nothing.
-use Rattle.std.specs.Prelude.{ℕ}
+use Rattle.std.specs.Prelude.{ℕ, Ok, Err}
+use Rattle.format.specs.Answers.{number, no_of}
 use Rattle.clash.specs.declared.ClashKind.{ClashKind}
 use Rattle.clash.specs.declared.ClashKind.TheVariants.{Labels, LabelAndLeader, Overhang, TwoLeaders}
-use Rattle.desk.specs.Desk.{load_outcome}
+use Rattle.desk.specs.Desk.{LoadAnswer, MarkAnswer}
 use Rattle.desk.specs.declared.Desk.{Desk}
-use Rattle.desk.specs.declared.LoadResult.{LoadResult}
-use Rattle.desk.specs.declared.MarkAnswer.{MarkAnswer}
-use Rattle.desk.specs.declared.MarkAnswer.TheVariants.{Marked, Refused}
-use Rattle.desk.specs.declared.MarkResult.{MarkResult}
+use Rattle.desk.specs.declared.After.{After}
 use Rattle.desk.specs.declared.Verdict.{Verdict}
 use Rattle.desk.specs.declared.Verdict.TheVariants.{Valid, Clash}
 use Rattle.plate_export.specs.declared.DeskLoadResult.{DeskLoadResult}
@@ -16,8 +14,8 @@ use Rattle.plate_export.specs.declared.DeskMarkResult.{DeskMarkResult}
 -- LOAD
 
 -- A load's result: the desk after it, and the number of the first no, 0 where nothing is refused.
-abbrev pub load_reply : LoadResult → DeskLoadResult
-load_reply r = record { desk = r.desk; number = (load_outcome r.answer).no }
+abbrev pub load_reply : After LoadAnswer → DeskLoadResult
+load_reply r = record { desk = r.desk; number = no_of r.answer }
 
 -- MARK
 
@@ -46,9 +44,9 @@ verdict_reply d number (Clash first second kind) =
 
 -- The cases of mark's answer, at the desk d after it.
 abbrev pub answer_reply : Desk → MarkAnswer → DeskMarkResult
-answer_reply d (Marked number verdict) = verdict_reply d number verdict
-answer_reply d (Refused k) = record { desk = d; number = k; list_number = 0; verdict = 0; sum = 0; shortfall = 0; first = 0; second = 0 }
+answer_reply d (Ok m) = verdict_reply d m.number m.verdict
+answer_reply d (Err r) = record { desk = d; number = number r; list_number = 0; verdict = 0; sum = 0; shortfall = 0; first = 0; second = 0 }
 
 -- A mark's result.
-abbrev pub mark_reply : MarkResult → DeskMarkResult
+abbrev pub mark_reply : After MarkAnswer → DeskMarkResult
 mark_reply r = answer_reply r.desk r.answer

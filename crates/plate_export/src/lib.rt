@@ -1,31 +1,37 @@
-// The calls for other languages, over numbers, slices and plain structs. No byte of a struct is left unset: a spare field stands where C's
-// alignment would leave some. It is 0 in what is returned, in a desk after any calls from desk_new on.
+// The calls for other languages, over numbers, slices and plain structs: C's names, a number for a refusal or a kind, 0 for none. No byte of
+// a struct is left unset: a spare field stands where C's alignment would leave some. It is 0 in what is returned, in a desk after any calls
+// from desk_new on.
 #![tactic(auto)]
 
 ghost use Rattle.std.specs.Prelude.{◌≡◌};
-ghost use Rattle.std.proofs.Math.Option.{none, some};
+ghost use Rattle.format.specs.Answers.{no_of};
 ghost use Rattle.format.specs.Sheet.{sheet_no};
 ghost use Rattle.format.specs.MakingQuestions.{workspace_after};
-ghost use Rattle.desk.specs.Desk.{fresh, load_outcome, load_of, mark_of};
+ghost use Rattle.desk.specs.Desk.{fresh, load_of, mark_of};
 ghost use Rattle.lines.specs.Writing.{PrintsListing};
-ghost use Rattle.plate_export.specs.Exported.{make_reply, MakingExported, ReadingExported};
-ghost use Rattle.plate_export.specs.ExportedDesk.{load_reply, kind_number, verdict_reply, mark_reply};
+ghost use Rattle.plate_export.specs.Exported.{MakingExported, ReadingExported};
+ghost use Rattle.plate_export.specs.ExportedDesk.{load_reply, kind_number, mark_reply};
 
 use clash::ClashKind;
-use desk::{Desk, LoadAnswer, MarkAnswer, Verdict};
-use plate_maker::MakeAnswer;
-use plate_reader::PlateAnswer;
-use sheet_reader::SheetAnswer;
+use desk::{After, Desk, Marked, Verdict};
+use format::{Refusal, point_count};
+
+// The number of an answer's first no, 0 where nothing is refused.
+fn number_of<A>(answer: &Result<A, Refusal>) -> u32
+    ensures { result ≡ no_of answer.now }
+{
+    match answer {
+        Ok(_) => 0,
+        Err(no) => u32::from(u8::from(*no)),
+    }
+}
 
 // The number of the first no of a sheet, 0 if it is accepted: sheet_reader::check_sheet.
 #[unsafe(no_mangle)]
 pub extern "C" fn plate_check_sheet(sheet: &[u8]) -> u32
     ensures { result ≡ sheet_no sheet.now }
 {
-    match sheet_reader::check_sheet(sheet) {
-        SheetAnswer::Accepted => 0,
-        SheetAnswer::Refused(no) => no as u32,
-    }
+    number_of(&sheet_reader::check_sheet(sheet))
 }
 
 // What plate_make and plate_make_ranked answer: the number of the first no, 0 where a plate is made; and the written length, 0 on a
@@ -39,30 +45,28 @@ pub struct MakeResult {
 }
 
 // The answer of a making.
-fn make_reply(answer: MakeAnswer) -> MakeResult
-    ensures { result ≡ make_reply answer }
-{
-    match answer {
-        MakeAnswer::Made(written) => MakeResult {
-            number: 0,
+impl From<Result<usize, Refusal>> for MakeResult {
+    ghost use Rattle.std.specs.Prelude.{◌≡◌};
+    ghost use Rattle.plate_export.specs.Exported.{make_reply};
+
+    ghost from_gives = { λ answer reply. reply ≡ make_reply answer };
+
+    fn from(answer: Result<usize, Refusal>) -> MakeResult {
+        MakeResult {
+            number: number_of(&answer),
             spare: 0,
-            written: written as u64,
-        },
-        MakeAnswer::Refused(no) => MakeResult {
-            number: no as u32,
-            spare: 0,
-            written: 0,
-        },
+            written: answer.unwrap_or(0) as u64,
+        }
     }
 }
 
 // plate_maker::make.
 #[unsafe(no_mangle)]
 pub extern "C" fn plate_make(sheet: &[u8], output: &mut [u8], workspace: &mut [u16]) -> MakeResult
-    ensures { MakingExported sheet.now none output.old workspace.old result
+    ensures { MakingExported sheet.now None output.old workspace.old result
         output.new workspace.new }
 {
-    make_reply(plate_maker::make(sheet, output, workspace))
+    MakeResult::from(plate_maker::make(sheet, output, workspace))
 }
 
 // plate_maker::make_ranked.
@@ -73,10 +77,10 @@ pub extern "C" fn plate_make_ranked(
     output: &mut [u8],
     workspace: &mut [u16],
 ) -> MakeResult
-    ensures { MakingExported sheet.now (some ranks.now) output.old workspace.old result
+    ensures { MakingExported sheet.now (Some ranks.now) output.old workspace.old result
         output.new workspace.new }
 {
-    make_reply(plate_maker::make_ranked(sheet, ranks, output, workspace))
+    MakeResult::from(plate_maker::make_ranked(sheet, ranks, output, workspace))
 }
 
 // What plate_read answers: the number of the first no, 0 where the plate is accepted; where the inside list starts in the plate, and how
@@ -96,14 +100,14 @@ pub extern "C" fn plate_read(plate: &[u8]) -> ReadResult
     ensures { ReadingExported plate.now result }
 {
     match plate_reader::read_plate(plate) {
-        PlateAnswer::Accepted(count) => ReadResult {
+        Ok(count) => ReadResult {
             number: 0,
             spare: 0,
-            inside_start: 11 + 6 * format::point_count(plate) as u64,
-            inside_count: count as u64,
+            inside_start: 11 + 6 * u64::from(point_count(plate)),
+            inside_count: u64::from(count),
         },
-        PlateAnswer::Refused(no) => ReadResult {
-            number: no as u32,
+        Err(no) => ReadResult {
+            number: u32::from(u8::from(no)),
             spare: 0,
             inside_start: 0,
             inside_count: 0,
@@ -143,7 +147,7 @@ pub struct DeskMarkResult {
     pub second: u32,
 }
 
-// The number of a clash's kind.
+// The number of a clash's kind, for C.
 fn kind_number(kind: ClashKind) -> u32
     ensures { result ≡ kind_number kind }
 {
@@ -155,35 +159,64 @@ fn kind_number(kind: ClashKind) -> u32
     }
 }
 
-// The answer on a marked list.
-fn verdict_reply(desk: Desk, list_number: u16, verdict: Verdict) -> DeskMarkResult
-    ensures { result ≡ verdict_reply desk list_number verdict }
-{
-    match verdict {
-        Verdict::Valid { sum, shortfall } => DeskMarkResult {
-            desk,
-            number: 0,
-            list_number: list_number as u32,
-            verdict: 1,
-            sum: sum as u32,
-            shortfall: shortfall as u32,
-            first: 0,
-            second: 0,
-        },
-        Verdict::Clash {
-            first,
-            second,
-            kind,
-        } => DeskMarkResult {
-            desk,
-            number: 0,
-            list_number: list_number as u32,
-            verdict: kind_number(kind),
+// What a load gives.
+impl From<After<Result<(), Refusal>>> for DeskLoadResult {
+    ghost use Rattle.std.specs.Prelude.{◌≡◌};
+    ghost use Rattle.plate_export.specs.ExportedDesk.{load_reply};
+
+    ghost from_gives = { λ loaded reply. reply ≡ load_reply loaded };
+
+    fn from(loaded: After<Result<(), Refusal>>) -> DeskLoadResult {
+        DeskLoadResult {
+            desk: loaded.desk,
+            number: number_of(&loaded.answer),
+        }
+    }
+}
+
+// What a mark gives.
+impl From<After<Result<Marked, Refusal>>> for DeskMarkResult {
+    ghost use Rattle.std.specs.Prelude.{◌≡◌};
+    ghost use Rattle.plate_export.specs.ExportedDesk.{mark_reply};
+
+    ghost from_gives = { λ marked reply. reply ≡ mark_reply marked };
+
+    fn from(marked: After<Result<Marked, Refusal>>) -> DeskMarkResult {
+        let blank = DeskMarkResult {
+            desk: marked.desk,
+            number: number_of(&marked.answer),
+            list_number: 0,
+            verdict: 0,
             sum: 0,
             shortfall: 0,
-            first: first as u32,
-            second: second as u32,
-        },
+            first: 0,
+            second: 0,
+        };
+        let Ok(Marked { number, verdict }) = marked.answer else {
+            return blank;
+        };
+        let listed = DeskMarkResult {
+            list_number: u32::from(number),
+            ..blank
+        };
+        match verdict {
+            Verdict::Valid { sum, shortfall } => DeskMarkResult {
+                verdict: 1,
+                sum: u32::from(sum),
+                shortfall: u32::from(shortfall),
+                ..listed
+            },
+            Verdict::Clash {
+                first,
+                second,
+                kind,
+            } => DeskMarkResult {
+                verdict: kind_number(kind),
+                first: u32::from(first),
+                second: u32::from(second),
+                ..listed
+            },
+        }
     }
 }
 
@@ -195,29 +228,13 @@ pub extern "C" fn desk_new() -> Desk
     Desk::new()
 }
 
-// The number of a load's answer.
-fn load_number(answer: LoadAnswer) -> u32
-    ensures { result ≡ (load_outcome answer).no }
-{
-    match answer {
-        LoadAnswer::Accepted => 0,
-        LoadAnswer::Refused(no) => no as u32,
-    }
-}
-
 // desk::Desk::load.
 #[unsafe(no_mangle)]
 pub extern "C" fn desk_load(desk: Desk, sheet: &[u8], workspace: &mut [u16]) -> DeskLoadResult
-    ensures value { result ≡ load_reply (load_of desk sheet.now none workspace.old) }
+    ensures value { result ≡ load_reply (load_of desk sheet.now None workspace.old) }
     ensures workspace_after { workspace.new ≡ workspace_after result.number workspace.old }
 {
-    let loaded = desk.load(sheet, workspace);
-    let after = loaded.desk;
-    let answer = loaded.answer;
-    DeskLoadResult {
-        desk: after,
-        number: load_number(answer),
-    }
+    DeskLoadResult::from(desk.load(sheet, workspace))
 }
 
 // desk::Desk::load_ranked.
@@ -228,16 +245,10 @@ pub extern "C" fn desk_load_ranked(
     ranks: &[u8],
     workspace: &mut [u16],
 ) -> DeskLoadResult
-    ensures value { result ≡ load_reply (load_of desk sheet.now (some ranks.now) workspace.old) }
+    ensures value { result ≡ load_reply (load_of desk sheet.now (Some ranks.now) workspace.old) }
     ensures workspace_after { workspace.new ≡ workspace_after result.number workspace.old }
 {
-    let loaded = desk.load_ranked(sheet, ranks, workspace);
-    let after = loaded.desk;
-    let answer = loaded.answer;
-    DeskLoadResult {
-        desk: after,
-        number: load_number(answer),
-    }
+    DeskLoadResult::from(desk.load_ranked(sheet, ranks, workspace))
 }
 
 // desk::Desk::mark.
@@ -245,20 +256,5 @@ pub extern "C" fn desk_load_ranked(
 pub extern "C" fn desk_mark(desk: Desk, list: &[u8]) -> DeskMarkResult
     ensures { result ≡ mark_reply (mark_of desk list.now) }
 {
-    let marked = desk.mark(list);
-    let after = marked.desk;
-    let answer = marked.answer;
-    match answer {
-        MarkAnswer::Marked { number, verdict } => verdict_reply(after, number, verdict),
-        MarkAnswer::Refused(no) => DeskMarkResult {
-            desk: after,
-            number: no as u32,
-            list_number: 0,
-            verdict: 0,
-            sum: 0,
-            shortfall: 0,
-            first: 0,
-            second: 0,
-        },
-    }
+    DeskMarkResult::from(desk.mark(list))
 }

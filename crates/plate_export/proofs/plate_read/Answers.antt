@@ -1,13 +1,13 @@
 -- `plate_export::plate_read` meets its contract. Assumes nothing.
-use mathlib.Core.Path.{ap}
-use Prim.Native.Nat.{ℕ, ◌+◌, ◌*◌}
+use Rattle.std.proofs.Common.{ap, ◌∙◌, ℕ, ◌+◌, ◌*◌}
 use Rattle.plate_export.proofs.Exported.{exported-accepted, exported-refused-plate}
 use Rattle.plate_export.proofs.plate_read.Goals as goal
 
-pub returns-in-Accepted : goal.returns-in-Accepted
-returns-in-Accepted c =
-    exported-accepted _ _ _ _ c.read_plate.ensures
-    c.in-Accepted.is (ap (λ (n : ℕ). 11 + 6 * n) c.point_count.ensures)
+pub returns-in-Ok : goal.returns-in-Ok
+returns-in-Ok c =
+    exported-accepted _ _ _ _ _ c.read_plate.ensures c.in-Ok.is
+    (ap (λ (n : ℕ). 11 + 6 * n) (c.from.ensures ∙ c.point_count.ensures)) c.from-in-Ok.ensures
 
-pub returns-in-Refused : goal.returns-in-Refused
-returns-in-Refused c = exported-refused-plate _ _ _ c.read_plate.ensures c.in-Refused.is
+pub returns-in-Err : goal.returns-in-Err
+returns-in-Err c =
+    exported-refused-plate _ _ _ _ c.read_plate.ensures c.in-Err.is (c.from-in-Err-2.ensures ∙ c.from-in-Err.ensures)
