@@ -9,19 +9,9 @@ ghost use Rattle.streams.specs.Moves.{ReadInto, Takes, WrittenOf};
 use std::io::{Error, ErrorKind, Read, Write};
 use std::str;
 
-// What reading came to: how many bytes were put at the start of the buffer, or a read that failed.
+// A read or a write that failed. The line that says why is on standard error.
 #[derive(Clone, Copy)]
-pub enum Input {
-    Read(usize),
-    Failed,
-}
-
-// What one write came to: how many of the text's first bytes it took, or that it failed.
-#[derive(Clone, Copy)]
-enum Output {
-    Written(usize),
-    Failed,
-}
+pub struct Failed;
 
 // FAILURES
 
@@ -35,7 +25,7 @@ fn system_words(text: &[u8]) -> Option<&str> {
 }
 
 // Writes a line to standard error: what failed, a colon and the error's text.
-fn fail(rt: &impl Eprint, what: &str, error: Error) {
+fn fail(rt: &impl Eprint, what: &str, error: Error) -> Failed {
     let mut text = [0; TEXT_ROOM];
     let mut room = &mut text[..];
     let _ = write!(room, "{error}");
@@ -43,91 +33,84 @@ fn fail(rt: &impl Eprint, what: &str, error: Error) {
         Some(words) => eprintln!(rt; "{what}: {words}"),
         None => eprintln!(rt; "{what}: {error}"),
     };
+    Failed
 }
 
 // READING
 
 // One read, tried again where a signal interrupts it; 0 bytes are the end of the input. A proved loop has to end, so this one has a number
 // of turns, which no run uses up. Where the read fails, a line on standard error says why.
-fn read_some<R: Read>(rt: &impl Eprint, input: &mut R, buffer: &mut [u8]) -> Input
+// write_some is the same loop over a write. One function over a closure would have to promise, of any closure, what a run of its failing
+// calls leaves (`FoldsTo`), which is longer than the loop.
+fn read_some<R: Read>(rt: &impl Eprint, input: &mut R, buffer: &mut [u8]) -> Result<usize, Failed>
     ensures into { ReadInto buffer.new result }
     ensures bytes { Takes (R.remaining input.old) (R.remaining input.new) buffer.new result }
 {
     for _ in 0..u64::MAX {
         match input.read(buffer) {
-            Ok(got) => return Input::Read(got),
-            Err(error) => {
-                if error.kind() != ErrorKind::Interrupted {
-                    fail(rt, "standard input", error);
-                    return Input::Failed;
-                }
-            }
+            Ok(got) => return Ok(got),
+            Err(error) if error.kind() == ErrorKind::Interrupted => {}
+            Err(error) => return Err(fail(rt, "standard input", error)),
         }
     }
-    fail(rt, "standard input", Error::from(ErrorKind::Interrupted));
-    Input::Failed
+    Err(fail(rt, "standard input", Error::from(ErrorKind::Interrupted)))
 }
 
-// Reads a program's input, which is standard input but in a test, until the buffer is full or the input ends. Where a read fails, a line on
-// standard error says why.
-pub fn read_input<R: Read>(rt: &impl Eprint, input: &mut R, buffer: &mut [u8]) -> Input
+// Reads a program's input, which is standard input but in a test, until the buffer is full or the input ends: how many bytes were put at
+// the start of the buffer. Where a read fails, a line on standard error says why.
+// A `while`: a step is as many bytes as a read put there.
+pub fn read_input<R: Read>(
+    rt: &impl Eprint,
+    input: &mut R,
+    buffer: &mut [u8],
+) -> Result<usize, Failed>
     ensures into { ReadInto buffer.new result }
     ensures bytes { Takes (R.remaining input.old) (R.remaining input.new) buffer.new result }
 {
     let mut done = 0;
     while done < buffer.len() {
-        match read_some(rt, input, &mut buffer[done..]) {
-            Input::Read(more) => {
-                if more == 0 {
-                    return Input::Read(done);
-                }
-                done += more;
-            }
-            Input::Failed => return Input::Failed,
+        let more = read_some(rt, input, &mut buffer[done..])?;
+        if more == 0 {
+            return Ok(done);
         }
+        done += more;
     }
-    Input::Read(done)
+    Ok(done)
 }
 
 // WRITING
 
-// One write, tried again where a signal interrupts it; its turns are counted as in read_some. Where the write fails, a line on standard
-// error says why.
-fn write_some(rt: &(impl Print + Eprint), text: &[u8]) -> Output
+// One write, tried again where a signal interrupts it; its turns are counted as in read_some. How many of the text's first bytes it took.
+// Where the write fails, a line on standard error says why.
+fn write_some(rt: &(impl Print + Eprint), text: &[u8]) -> Result<usize, Failed>
     ensures { WrittenOf text.now result }
 {
     for _ in 0..u64::MAX {
         match rt.write_some(text) {
-            Ok(put) => return Output::Written(put),
-            Err(error) => {
-                if error.kind() != ErrorKind::Interrupted {
-                    fail(rt, "standard output", error);
-                    return Output::Failed;
-                }
-            }
+            Ok(put) => return Ok(put),
+            Err(error) if error.kind() == ErrorKind::Interrupted => {}
+            Err(error) => return Err(fail(rt, "standard output", error)),
         }
     }
-    fail(rt, "standard output", Error::from(ErrorKind::Interrupted));
-    Output::Failed
+    Err(fail(rt, "standard output", Error::from(ErrorKind::Interrupted)))
 }
 
 // Writes the text to standard output and answers how many of its bytes were written: all, unless a write failed, and then a line on
 // standard error says why. A write that takes no byte counts as one that failed.
+// A `while`: a step is as many bytes as a write took.
 pub fn write_output(rt: &(impl Print + Eprint), text: &[u8]) -> usize
     ensures { result ≤ length text.now }
 {
     let mut done = 0;
     while done < text.len() {
-        match write_some(rt, &text[done..]) {
-            Output::Written(more) => {
-                if more == 0 {
-                    let _ = eprintln!(rt; "standard output: a write took no bytes");
-                    return done;
-                }
-                done += more;
-            }
-            Output::Failed => return done,
+        let Ok(more) = write_some(rt, &text[done..]) else {
+            return done;
+        };
+        if more == 0 {
+            let _ = eprintln!(rt; "standard output: a write took no bytes");
+            return done;
         }
+        done += more;
     }
     done
 }

@@ -16,7 +16,7 @@ take_read a k n xs ys p q =
 pub loop-done-preserved : goal.loop-done-preserved
 loop-done-preserved g c =
     let kept = c.loop-done.invariant in
-    let read = c.in-Read.ensures in (
+    let read = c.in_ok-more.ensures in (
       search rules,
       subst (Consumes _ _) (sym (take_read _ _ _ _ _ kept.0 read.into.0)) (Consumes-trans _ _ _ _ _ kept.1 read.bytes),
     )
