@@ -1,14 +1,15 @@
-// Reads a script, call by call. A call is a kind byte and its parts, each a two-byte length, low byte first, and that many bytes. `form_of`
-// says which kinds a program knows, and which parts a call of each kind has.
+// Reads a script, call by call. A call is a kind byte and its parts, each a two-byte length, low byte first, and that many bytes. `kind_of`
+// says which kinds a program knows, and `form` which parts a call of each kind has.
 #![tactic(auto)]
 
 ghost use Rattle.std.specs.Prelude.{◌≡◌, ◌≤◌, length};
-ghost use Rattle.script.specs.Calls.{desk_form, all_form, form_of, one_part, two_parts};
+ghost use Rattle.script.specs.Calls.{form, kind_of};
 ghost use Rattle.script.specs.Calls.{CallIn, CallOf, PartIn, PartOf, number_in, part_of};
 ghost use Rattle.script.specs.Calls.{BytesTaken, CallTaken, KindTaken, PartTaken, PartsTaken};
+ghost use Rattle.script.specs.declared.Stop.TheVariants.{Failed as ReadFailed};
 
 use std::io::Read;
-use streams::{Input, read_input};
+use streams::{Failed, read_input};
 
 // Room for a part of any length.
 const PART_ROOM: usize = 65536;
@@ -20,15 +21,39 @@ pub enum Kinds {
     All,
 }
 
-// What a script has next: a call of a known kind, each of whose two parts fills the first bytes of its buffer, none of them if the call
-// has no such part; what isn't one, because its kind isn't known or a part ends early; the end, where a call would start; or a read that
-// failed, whose line is on standard error.
+// What a call asks for: on a desk to load a sheet, to mark a list, or to load a sheet with a rank list; without one to make a plate of a
+// sheet, to read a plate, or to make a plate of a sheet with a rank list.
 #[derive(Clone, Copy)]
-pub enum Call {
-    Known { kind: u8, first: u16, second: u16 },
+pub enum CallKind {
+    Load,
+    Mark,
+    LoadRanked,
+    Make,
+    Read,
+    MakeRanked,
+}
+
+// A call of a known kind, each of whose two parts fills the first bytes of its buffer, none of them if the call has no such part.
+#[derive(Clone, Copy)]
+pub struct Call {
+    pub kind: CallKind,
+    pub first: u16,
+    pub second: u16,
+}
+
+// Why a call isn't read: it is none, because its kind isn't known or a part ends early; or a read failed, whose line is on standard error.
+#[derive(Clone, Copy)]
+pub enum Stop {
     Bad,
-    End,
     Failed,
+}
+
+impl From<Failed> for Stop {
+    ghost from_gives = { λ _ stop. stop ≡ ReadFailed };
+
+    fn from(_: Failed) -> Stop {
+        Stop::Failed
+    }
 }
 
 // How a part stands in a call: not at all, or as its length and its bytes.
@@ -38,81 +63,45 @@ enum Part {
     Sized,
 }
 
-// The form of a call by its kind: how its parts stand in it, or that the kind isn't known.
+// The form of a call: how its parts stand in it.
 #[derive(Clone, Copy)]
-enum Form {
-    Parts { first: Part, second: Part },
-    Unknown,
+struct Form {
+    first: Part,
+    second: Part,
 }
 
-// What stands where a call would start.
-#[derive(Clone, Copy)]
-enum Start {
-    Kind(u8),
-    End,
-    Failed,
-}
+// KINDS
 
-// What became of a part: it is whole, with this length; it ends early; or a read failed.
-#[derive(Clone, Copy)]
-enum PartRead {
-    Whole(u16),
-    Short,
-    Failed,
-}
-
-// FORMS
-
-fn one_part() -> Form
-    ensures { result ≡ one_part }
-{
-    Form::Parts {
-        first: Part::Sized,
-        second: Part::Absent,
+impl Kinds {
+    // The kind of a call whose first byte is this, if the program knows it.
+    #[tactic(auto, unfolding(crate::specs::Calls::kind_of))]
+    fn kind_of(self, byte: u8) -> Option<CallKind>
+        ensures { result ≡ kind_of self byte }
+    {
+        match (byte, self) {
+            (1, _) => Some(CallKind::Load),
+            (2, _) => Some(CallKind::Mark),
+            (3, _) => Some(CallKind::LoadRanked),
+            (11, Kinds::All) => Some(CallKind::Make),
+            (12, Kinds::All) => Some(CallKind::Read),
+            (13, Kinds::All) => Some(CallKind::MakeRanked),
+            _ => None,
+        }
     }
 }
 
-fn two_parts() -> Form
-    ensures { result ≡ two_parts }
-{
-    Form::Parts {
-        first: Part::Sized,
-        second: Part::Sized,
-    }
-}
-
-// The calls on a desk.
-#[tactic(auto, unfolding(crate::specs::Calls::desk_form))]
-fn desk_form(kind: u8) -> Form
-    ensures { result ≡ desk_form kind }
-{
-    match kind {
-        1 => one_part(), // a sheet, which is loaded
-        2 => one_part(), // a list, which is marked
-        3 => two_parts(), // a sheet and a rank list, with which it is loaded
-        _ => Form::Unknown,
-    }
-}
-
-// The calls on a desk, and those without one.
-#[tactic(auto, unfolding(crate::specs::Calls::all_form))]
-fn all_form(kind: u8) -> Form
-    ensures { result ≡ all_form kind }
-{
-    match kind {
-        11 => one_part(), // a sheet, which is made into a plate
-        12 => one_part(), // a plate, which is read
-        13 => two_parts(), // a sheet and a rank list, with which it is made into a plate
-        _ => desk_form(kind),
-    }
-}
-
-fn form_of(kinds: Kinds, kind: u8) -> Form
-    ensures { result ≡ form_of kinds kind }
-{
-    match kinds {
-        Kinds::Desk => desk_form(kind),
-        Kinds::All => all_form(kind),
+impl CallKind {
+    fn form(self) -> Form
+        ensures { result ≡ form self }
+    {
+        let second = match self {
+            CallKind::LoadRanked | CallKind::MakeRanked => Part::Sized,
+            _ => Part::Absent,
+        };
+        Form {
+            first: Part::Sized,
+            second,
+        }
     }
 }
 
@@ -122,59 +111,60 @@ fn form_of(kinds: Kinds, kind: u8) -> Form
 fn number_in(low: u8, high: u8) -> u16
     ensures { result ≡ number_in low high }
 {
-    low as u16 + 256 * high as u16
+    u16::from_le_bytes([low, high])
 }
 
-fn read_kind<R: Read>(rt: &impl Eprint, input: &mut R) -> Start
+// A call's first byte, or None where the input ends.
+fn read_kind<R: Read>(rt: &impl Eprint, input: &mut R) -> Result<Option<u8>, Failed>
     ensures { KindTaken (R.remaining input.old) (R.remaining input.new) result }
 {
     let mut bytes = [0u8; 1];
-    let Input::Read(n) = read_input(rt, input, &mut bytes) else {
-        return Start::Failed;
-    };
-    if n == 0 {
-        return Start::End;
-    }
-    Start::Kind(bytes[0])
+    let n = read_input(rt, input, &mut bytes)?;
+    Ok((n > 0).then_some(bytes[0]))
 }
 
 // What became of a part of `count` bytes, of which `got` were there.
 #[tactic(auto, unfolding(crate::specs::Calls::part_of))]
-fn part_of(count: u16, got: usize) -> PartRead
+fn part_of(count: u16, got: usize) -> Result<u16, Stop>
     ensures { result ≡ part_of count got }
 {
-    let n = count as usize;
+    let n = usize::from(count);
     if got < n {
-        return PartRead::Short;
+        return Err(Stop::Bad);
     }
-    PartRead::Whole(count)
+    Ok(count)
 }
 
 // A part's bytes, as many as its length says.
 #[tactic(auto, unfolding(crate::specs::Calls::part_of))]
-fn read_bytes<R: Read>(rt: &impl Eprint, input: &mut R, count: u16, buffer: &mut [u8]) -> PartRead
+fn read_bytes<R: Read>(
+    rt: &impl Eprint,
+    input: &mut R,
+    count: u16,
+    buffer: &mut [u8],
+) -> Result<u16, Stop>
     requires { count ≤ length buffer.old }
     ensures part { PartOf count buffer.new result }
     ensures bytes { BytesTaken (R.remaining input.old) (R.remaining input.new) buffer.new result }
 {
-    let n = count as usize;
-    let Input::Read(got) = read_input(rt, input, &mut buffer[..n]) else {
-        return PartRead::Failed;
-    };
+    let n = usize::from(count);
+    let got = read_input(rt, input, &mut buffer[..n])?;
     part_of(count, got)
 }
 
 // A part's length and its bytes.
-fn read_sized<R: Read>(rt: &impl Eprint, input: &mut R, buffer: &mut [u8; PART_ROOM]) -> PartRead
+fn read_sized<R: Read>(
+    rt: &impl Eprint,
+    input: &mut R,
+    buffer: &mut [u8; PART_ROOM],
+) -> Result<u16, Stop>
     ensures part { PartIn Part.Sized buffer.new result }
     ensures bytes { PartTaken (R.remaining input.old) (R.remaining input.new) Part.Sized buffer.new result }
 {
     let mut bytes = [0u8; 2];
-    let Input::Read(n) = read_input(rt, input, &mut bytes) else {
-        return PartRead::Failed;
-    };
+    let n = read_input(rt, input, &mut bytes)?;
     if n < 2 {
-        return PartRead::Short;
+        return Err(Stop::Bad);
     }
     read_bytes(rt, input, number_in(bytes[0], bytes[1]), buffer)
 }
@@ -185,64 +175,52 @@ fn read_part<R: Read>(
     input: &mut R,
     part: Part,
     buffer: &mut [u8; PART_ROOM],
-) -> PartRead
+) -> Result<u16, Stop>
     ensures part { PartIn part buffer.new result }
     ensures bytes { PartTaken (R.remaining input.old) (R.remaining input.new) part buffer.new result }
 {
     match part {
-        Part::Absent => PartRead::Whole(0),
+        Part::Absent => Ok(0),
         Part::Sized => read_sized(rt, input, buffer),
     }
 }
 
-// The rest of a call whose kind was read. Nothing is read of one that isn't known.
+// The rest of a call whose first byte was read.
 fn read_parts<R: Read>(
     rt: &impl Eprint,
     input: &mut R,
-    kind: u8,
-    form: Form,
+    kind: CallKind,
     first: &mut [u8; PART_ROOM],
     second: &mut [u8; PART_ROOM],
-) -> Call
-    ensures call { CallOf kind form first.new second.new result }
-    ensures bytes { PartsTaken (R.remaining input.old) (R.remaining input.new) form first.new second.new result }
+) -> Result<Call, Stop>
+    ensures call { CallOf kind first.new second.new result }
+    ensures bytes { PartsTaken (R.remaining input.old) (R.remaining input.new) kind first.new second.new result }
 {
-    let Form::Parts {
-        first: a,
-        second: b,
-    } = form
-    else {
-        return Call::Bad;
-    };
-    match read_part(rt, input, a, first) {
-        PartRead::Whole(n) => match read_part(rt, input, b, second) {
-            PartRead::Whole(m) => Call::Known {
-                kind,
-                first: n,
-                second: m,
-            },
-            PartRead::Short => Call::Bad,
-            PartRead::Failed => Call::Failed,
-        },
-        PartRead::Short => Call::Bad,
-        PartRead::Failed => Call::Failed,
-    }
+    let form = kind.form();
+    let n = read_part(rt, input, form.first, first)?;
+    let m = read_part(rt, input, form.second, second)?;
+    Ok(Call {
+        kind,
+        first: n,
+        second: m,
+    })
 }
 
-// The next call. Whether its kind is known is asked before anything more is read.
+// The next call, or None where the input ends before its first byte. Whether its kind is known is asked before anything more is read.
 pub fn read_call<R: Read>(
     rt: &impl Eprint,
     input: &mut R,
     kinds: Kinds,
     first: &mut [u8; PART_ROOM],
     second: &mut [u8; PART_ROOM],
-) -> Call
+) -> Result<Option<Call>, Stop>
     ensures call { CallIn kinds first.new second.new result }
-    ensures bytes { CallTaken (R.remaining input.old) (R.remaining input.new) kinds first.new second.new result }
+    ensures bytes { CallTaken (R.remaining input.old) (R.remaining input.new) first.new second.new result }
 {
-    match read_kind(rt, input) {
-        Start::Kind(kind) => read_parts(rt, input, kind, form_of(kinds, kind), first, second),
-        Start::End => Call::End,
-        Start::Failed => Call::Failed,
-    }
+    let Some(byte) = read_kind(rt, input)? else {
+        return Ok(None);
+    };
+    let kind = kinds.kind_of(byte).ok_or(Stop::Bad)?;
+    let call = read_parts(rt, input, kind, first, second)?;
+    Ok(Some(call))
 }
