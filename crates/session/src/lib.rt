@@ -1,183 +1,157 @@
 // Runs a script, for the programs desk_session and conformance: its calls, each with a line on standard output.
 #![tactic(auto)]
 
-ghost use Rattle.std.specs.Prelude.{◌≡◌};
-ghost use Rattle.std.proofs.Math.Option.{none, some};
-ghost use Rattle.session.specs.Session.{Runs, Reached, desk_after_call, desk_call, loaded_call, load_call, mark_call};
+ghost use Rattle.std.specs.Prelude.{◌≡◌, option_copied};
+ghost use Rattle.desk.specs.Desk.{Loading};
+ghost use Rattle.session.specs.Session.{Runs, Reached, desk_after_call, desk_call, load_call, mark_call};
 
-use desk::{Desk, LoadResult};
-use format::WORKSPACE_CELLS;
+use desk::{After, Desk};
+use format::{Refusal, WORKSPACE_CELLS};
 use lines::{LINE_ROOM, load_line, mark_line};
-use plates::{run_plate, run_ranked_sheet, run_sheet};
-use script::{Call, Kinds, read_call};
+use plates::{run_plate, run_sheet};
+use script::{CallKind, Kinds, Stop, read_call};
 use std::io::Read;
-use streams::write_output;
+use streams::{Failed, write_output};
 
 mod plates;
 
-// The desk after a call, and the length of the call's line.
+// A call and its parts; one that the call doesn't have is empty.
 #[derive(Clone, Copy)]
-struct Ran {
-    desk: Desk,
-    length: usize,
+struct Request<'a> {
+    kind: CallKind,
+    first: &'a [u8],
+    second: &'a [u8],
 }
 
-// The desk after a call, and whether all of the call's line was written. If not, a line on standard error says why.
-#[derive(Clone, Copy)]
-struct Answered {
-    desk: Desk,
-    written: bool,
+// Writes a text to standard output, all of it unless a write fails.
+fn print(rt: &(impl Print + Eprint), text: &[u8]) -> Result<(), Failed> {
+    if write_output(rt, text) < text.len() {
+        return Err(Failed);
+    }
+    Ok(())
 }
 
-// The line of a load.
-fn load_ran(res: LoadResult, line: &mut [u8]) -> Ran
-    ensures { Runs (loaded_call res) line.old result line.new }
+// Loads a sheet, with a rank list or without.
+fn load(
+    desk: Desk,
+    sheet: &[u8],
+    ranks: Option<&[u8]>,
+    workspace: &mut [u16],
+) -> After<Result<(), Refusal>>
+    ensures { Loading desk sheet.now (option_copied ranks.entry) workspace.old result workspace.new }
 {
-    let answer = res.answer;
-    let loaded = res.desk;
-    let length = load_line(answer, loaded, line);
-    Ran {
-        desk: loaded,
-        length,
+    match ranks {
+        None => desk.load(sheet, workspace),
+        Some(ranks) => desk.load_ranked(sheet, ranks, workspace),
     }
 }
 
-// Loads a sheet. The workspace is zeros.
-fn run_load(desk: Desk, sheet: &[u8], line: &mut [u8]) -> Ran
-    ensures { Runs (load_call desk sheet.now none) line.old result line.new }
+// Runs a load: the length of the call's line. The workspace is zeros.
+fn run_load(desk: &mut Desk, sheet: &[u8], ranks: Option<&[u8]>, line: &mut [u8]) -> usize
+    ensures { Runs (load_call desk.old sheet.now (option_copied ranks.entry)) line.old desk.new result line.new }
 {
     let mut workspace = [0u16; WORKSPACE_CELLS];
-    let result = desk.load(sheet, &mut workspace);
-    load_ran(result, line)
+    let after = load(*desk, sheet, ranks, &mut workspace);
+    *desk = after.desk;
+    load_line(after.answer, after.desk, line)
 }
 
-// Loads a sheet with a rank list. The workspace is zeros.
-fn run_ranked_load(desk: Desk, sheet: &[u8], ranks: &[u8], line: &mut [u8]) -> Ran
-    ensures { Runs (load_call desk sheet.now (some ranks.now)) line.old result line.new }
+// Runs a mark: the length of the call's line.
+fn run_mark(desk: &mut Desk, list: &[u8], line: &mut [u8]) -> usize
+    ensures { Runs (mark_call desk.old list.now) line.old desk.new result line.new }
 {
-    let mut workspace = [0u16; WORKSPACE_CELLS];
-    let result = desk.load_ranked(sheet, ranks, &mut workspace);
-    load_ran(result, line)
+    let after = desk.mark(list);
+    *desk = after.desk;
+    mark_line(after.answer, line)
 }
 
-// Marks a list.
-fn run_mark(desk: Desk, list: &[u8], line: &mut [u8]) -> Ran
-    ensures { Runs (mark_call desk list.now) line.old result line.new }
+// Loads a sheet, or a sheet with a rank list; every other kind marks a list. The length of the call's line.
+fn run_call(desk: &mut Desk, call: Request<'_>, line: &mut [u8]) -> usize
+    ensures { Runs (desk_call desk.old call.entry.kind call.entry.first.now call.entry.second.now) line.old desk.new result line.new }
 {
-    let result = desk.mark(list);
-    let answer = result.answer;
-    let marked = result.desk;
-    let length = mark_line(answer, line);
-    Ran {
-        desk: marked,
-        length,
+    match call.kind {
+        CallKind::Load => run_load(desk, call.first, None, line),
+        CallKind::LoadRanked => run_load(desk, call.first, Some(call.second), line),
+        _ => run_mark(desk, call.first, line),
     }
 }
 
-// Kind 1 loads a sheet, kind 3 a sheet with a rank list, every other kind marks a list.
-fn run_call(desk: Desk, kind: u8, first: &[u8], second: &[u8], line: &mut [u8]) -> Ran
-    ensures { Runs (desk_call desk kind first.now second.now) line.old result line.new }
-{
-    if kind == 1 {
-        return run_load(desk, first, line);
-    }
-    if kind == 3 {
-        return run_ranked_load(desk, first, second, line);
-    }
-    run_mark(desk, first, line)
-}
-
-// Writes a line to standard output: whether all of it was written. What it asks says that the line is the call's.
+// Writes a line to standard output. What it asks says that the line is the call's, on this desk.
 fn write_line(
     rt: &(impl Print + Eprint),
     desk: Desk,
-    kind: u8,
-    first: &[u8],
-    second: &[u8],
+    call: Request<'_>,
     line: &[u8],
-) -> bool
-    requires { line.now ≡ (desk_call desk kind first.now second.now).text }
+) -> Result<(), Failed>
+    requires { line.now ≡ (desk_call desk call.kind call.first.now call.second.now).text }
 {
-    write_output(rt, line) == line.len()
+    print(rt, line)
 }
 
 // Runs a call on the desk and writes its line.
 fn answer_on_desk(
     rt: &(impl Print + Eprint),
-    desk: Desk,
-    kind: u8,
-    first: &[u8],
-    second: &[u8],
-) -> Answered
-    ensures { result.desk ≡ (desk_call desk kind first.now second.now).desk }
+    desk: &mut Desk,
+    call: Request<'_>,
+) -> Result<(), Failed>
+    ensures { desk.new ≡ (desk_call desk.old call.entry.kind call.entry.first.now call.entry.second.now).desk }
 {
     let mut line = [0u8; LINE_ROOM];
-    let ran = run_call(desk, kind, first, second, &mut line);
-    let n = ran.length;
-    let after = ran.desk;
-    let written = write_line(rt, desk, kind, first, second, &line[..n]);
-    Answered {
-        desk: after,
-        written,
+    let before = *desk;
+    let n = run_call(desk, call, &mut line);
+    write_line(rt, before, call, &line[..n])
+}
+
+// Runs a call and writes its line.
+fn answer(rt: &(impl Print + Eprint), desk: &mut Desk, call: Request<'_>) -> Result<(), Failed>
+    ensures { desk.new ≡ desk_after_call desk.old call.entry.kind call.entry.first.now call.entry.second.now }
+{
+    match call.kind {
+        CallKind::Make => run_sheet(rt, call.first, None),
+        CallKind::Read => run_plate(rt, call.first),
+        CallKind::MakeRanked => run_sheet(rt, call.first, Some(call.second)),
+        _ => answer_on_desk(rt, desk, call),
     }
 }
 
-// Runs a call and writes its line. Kind 11 is a sheet, which is made into a plate, kind 12 a plate, which is read, kind 13 a sheet and a
-// rank list, with which it is made into a plate; every other kind is a call on the desk.
-fn answer(rt: &(impl Print + Eprint), desk: Desk, kind: u8, first: &[u8], second: &[u8]) -> Answered
-    ensures { result.desk ≡ desk_after_call desk kind first.now second.now }
+// Runs the calls of a script to its end, on this desk. The count of turns is there so that the loop ends for certain: no script has as many
+// calls.
+fn run_calls(
+    rt: &(impl Print + Eprint),
+    input: &mut impl Read,
+    kinds: Kinds,
+    desk: &mut Desk,
+) -> Result<(), Stop>
+    requires { Reached desk.old }
+    ensures { Reached desk.new }
 {
-    match kind {
-        11 => Answered {
-            desk,
-            written: run_sheet(rt, first),
-        },
-        12 => Answered {
-            desk,
-            written: run_plate(rt, first),
-        },
-        13 => Answered {
-            desk,
-            written: run_ranked_sheet(rt, first, second),
-        },
-        _ => answer_on_desk(rt, desk, kind, first, second),
+    let mut first = io::large_buffer();
+    let mut second = io::large_buffer();
+    for _ in 0..u64::MAX {
+        let Some(call) = read_call(rt, input, kinds, &mut first, &mut second)? else {
+            return Ok(());
+        };
+        let n = usize::from(call.first);
+        let m = usize::from(call.second);
+        let request = Request {
+            kind: call.kind,
+            first: &first[..n],
+            second: &second[..m],
+        };
+        answer(rt, desk, request)?;
     }
+    Ok(())
 }
 
 // Runs the script on a program's input, which is standard input but in a test, on a fresh desk and writes a line for each call. At a
 // call that is cut short, or of none of these kinds, it writes `bad call` and stops. It stops too where a read or a write fails, whose line
-// is on standard error. The count of turns is there so that the loop ends for certain: no script has as many calls. The desk that the calls
-// leave is handed back: which calls they are, no contract can say.
+// is on standard error. The desk that the calls leave is handed back: which calls they are, no contract can say.
 pub fn run(rt: &(impl Print + Eprint), input: &mut impl Read, kinds: Kinds) -> Desk
     ensures { Reached result }
 {
-    let mut first = io::large_buffer();
-    let mut second = io::large_buffer();
     let mut desk = Desk::new();
-    let mut turns = u64::MAX;
-    while turns > 0 {
-        match read_call(rt, input, kinds, &mut first, &mut second) {
-            Call::Known {
-                kind,
-                first: first_length,
-                second: second_length,
-            } => {
-                let n = first_length as usize;
-                let m = second_length as usize;
-                let answered = answer(rt, desk, kind, &first[..n], &second[..m]);
-                desk = answered.desk;
-                if !answered.written {
-                    return desk;
-                }
-            }
-            Call::Bad => {
-                write_output(rt, b"bad call\n");
-                return desk;
-            }
-            Call::End => return desk,
-            Call::Failed => return desk,
-        }
-        turns -= 1;
+    if let Err(Stop::Bad) = run_calls(rt, input, kinds, &mut desk) {
+        write_output(rt, b"bad call\n");
     }
     desk
 }

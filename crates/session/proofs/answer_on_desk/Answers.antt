@@ -2,5 +2,5 @@ use Rattle.std.proofs.Common.{arith}
 use Rattle.lines.proofs.Writing.{prints-whole}
 use Rattle.session.proofs.answer_on_desk.Goals as goal
 
-pub write_line-written-requires : goal.write_line-written-requires
-write_line-written-requires g c = prints-whole (omega arith) c.run_call-ran.ensures.line
+pub write_line-requires : goal.write_line-requires
+write_line-requires g c = prints-whole (omega arith) c.run_call-n.ensures.line

@@ -1,5 +1,5 @@
-use Rattle.desk.proofs.DeskLaws.{loading-exactly}
+use Rattle.session.proofs.Session.{load-runs}
 use Rattle.session.proofs.run_load.Goals as goal
 
 pub returns : goal.returns
-returns c = rw (← ((loading-exactly _ _ _ _ _ _).0 c.load-result.ensures).0) c.load_ran.ensures
+returns c = load-runs _ _ _ _ _ _ _ _ c.load-after.ensures c.load_line.ensures
