@@ -1,8 +1,7 @@
 -- The printed text of single sheets: P1's is what document 01 says, P9's has the margin columns of document 02 (b), and where no choice is
 -- valid, it is a refusal's. Assumes nothing.
-use Rattle.std.specs.Prelude.{◌≡◌, refl, List, ℕ, ◌≤◌}
+use Rattle.std.specs.Prelude.{◌≡◌, refl, List, ℕ, ◌≤◌, None}
 use Rattle.std.proofs.Common.{◌∙◌, arith}
-use Rattle.std.proofs.Math.Option.{none}
 use Rattle.labeling.specs.Conflicts.{conflict_b, every, apart_b, within_b, valid_b}
 use Rattle.labeling.specs.Best.{weight_below, weight, put, best_from, best}
 use Rattle.format.specs.Sizes.{plate_room, workspace_cells}
@@ -21,14 +20,14 @@ use Rattle.lines.specs.Listing.{listing_of}
 use Rattle.lines.proofs.LineCases.{all_listed}
 use Rattle.print_plate.specs.PrintedText.{printed_text}
 
-made-printed : (s p : List ℕ) → sheet_no s ≡ 0 → choice_no s ≡ 0 → best_plate s none ≡ p → printed_text s ≡ listing_of p
+made-printed : (s p : List ℕ) → sheet_no s ≡ 0 → choice_no s ≡ 0 → best_plate s None ≡ p → printed_text s ≡ listing_of p
 unfolding printed_text
-made-printed s p ok some e =
+made-printed s p ok some_valid e =
     let a = accepted s ok in
     let few : point_count s ≤ 32 = a.proper.few in
-    let made : making_no s none plate_room workspace_cells ≡ 0 =
-    (none-making s none plate_room workspace_cells).of
-    (((a, (omega arith, (omega arith, tt))), none_right (point_count s)), (none-choice s a).is some) in
+    let made : making_no s None plate_room workspace_cells ≡ 0 =
+    (none-making s None plate_room workspace_cells).of
+    (((a, (omega arith, (omega arith, tt))), none_right (point_count s)), (none-choice s a).is some_valid) in
     rw (made, e)
 
 -- P1: "The printing program, given this sheet on standard input, writes exactly".
@@ -50,7 +49,7 @@ p9-printed =
     made-printed (stacked 6) _ c.accepted c.expected.1 c.expected.2 ∙ all_listed.1.1.0
 
 -- "label 4 by 2, three points at columns 0, 2 and 4 of one row" (document 02 (c)): no choice is valid.
-crowded-no : making_no crowded none plate_room workspace_cells ≡ 61
+crowded-no : making_no crowded None plate_room workspace_cells ≡ 61
 unfolding two_bytes every unlike_earlier point_no points_no questions_no sheet_no ranks_no room_no asked_no choosing_no making_no
     conflict_b apart_b within_b valid_b weight_below weight put best_from best
 crowded-no = refl

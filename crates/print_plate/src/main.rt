@@ -8,8 +8,7 @@ ghost use Rattle.print_plate.specs.PrintedText.{printed_text, text_room};
 
 use format::{PLATE_ROOM, WORKSPACE_CELLS};
 use lines::{listing, refusal_line};
-use plate_maker::MakeAnswer;
-use streams::{Input, read_input, write_output};
+use streams::{read_input, write_output};
 
 // Room for the listing of 32 points, 24 + 16 · 32 bytes.
 const TEXT_ROOM: usize = 536;
@@ -22,8 +21,8 @@ fn put_text(sheet: &[u8], text: &mut [u8]) -> usize
     let mut output = [0u8; PLATE_ROOM];
     let mut workspace = [0u16; WORKSPACE_CELLS];
     match plate_maker::make(sheet, &mut output, &mut workspace) {
-        MakeAnswer::Made(written) => listing(&output[..written], text),
-        MakeAnswer::Refused(no) => refusal_line(no, text),
+        Ok(written) => listing(&output[..written], text),
+        Err(refusal) => refusal_line(u8::from(refusal), text),
     }
 }
 
@@ -48,7 +47,7 @@ fn print_plate_of(rt: &(impl Print + Eprint), sheet: &[u8]) {
 
 fn main(rt: HostRuntime) {
     let mut bytes = io::buffer();
-    let Input::Read(n) = read_input(&rt, &mut rt.stdin(), &mut bytes) else {
+    let Ok(n) = read_input(&rt, &mut rt.stdin(), &mut bytes) else {
         return;
     };
     print_plate_of(&rt, &bytes[..n]);

@@ -6,12 +6,12 @@ use Rattle.print_plate.proofs.Laws.{made-text, refused-text}
 use Rattle.print_plate.proofs.put_text.Goals as goal
 
 pub slice_bounds-output-end : goal.slice_bounds-output-end
-slice_bounds-output-end c = made-within c.make.ensures c.in-Made.is
+slice_bounds-output-end c = made-within c.make.ensures c.in-Ok.is
 
-pub returns-in-Made : goal.returns-in-Made
-returns-in-Made c =
-    made-text c.make.ensures refl (length-replicate {A = ℕ} workspace_cells 0) c.requires c.in-Made.is c.listing.ensures
+pub returns-in-Ok : goal.returns-in-Ok
+returns-in-Ok c =
+    made-text c.make.ensures refl (length-replicate {A = ℕ} workspace_cells 0) c.requires c.in-Ok.is c.listing.ensures
 
-pub returns-in-Refused : goal.returns-in-Refused
-returns-in-Refused c =
-    refused-text c.make.ensures refl (length-replicate {A = ℕ} workspace_cells 0) c.requires c.in-Refused.is c.refusal_line.ensures
+pub returns-in-Err : goal.returns-in-Err
+returns-in-Err c =
+    refused-text c.make.ensures refl (length-replicate {A = ℕ} workspace_cells 0) c.requires c.in-Err.is c.from.ensures c.refusal_line.ensures
