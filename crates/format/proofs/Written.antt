@@ -1,9 +1,9 @@
 -- The theorems on the definitions of specs/Written.antt. Assumes nothing.
 use Rattle.std.specs.Prelude.{◌≡◌, List, [], ◌∷◌, ◌++◌, ℕ, suc, ◌+◌, ◌≤◌, ◌<◌, length, get_or, take, drop, set}
-use Rattle.std.proofs.Common.{append_assoc, zero-add, add-one, arith, le-leb, length-append, length-take-le, take-suc, drop-cons, take_at, drop_at, drop-drop}
+use Rattle.std.proofs.Common.{◌∙◌, ap, append_assoc, zero-add, add-one, arith, le-leb, length-append, length-take-le, take-suc, drop-cons, take_at, drop_at, drop-drop}
 use Rattle.std.proofs.lemmas.Bool.{lt-leb}
 use Rattle.std.proofs.lemmas.List.{set_at}
-use Rattle.std.proofs.Math.Seq.{paste-zero}
+use Rattle.std.proofs.Math.Seq.{take-length, paste-zero}
 use Rattle.format.specs.Written.{written, written_if_room}
 
 pub written-fits : (d : List ℕ) (at : ℕ) (w : List ℕ) → at + length w ≤ length d → written_if_room d at w ≡ written d at w
@@ -74,3 +74,17 @@ written-front d at w x h =
 pub written-first : (d w : List ℕ) → written d 0 w ≡ w ++ drop (length w) d
 unfolding written
 written-first d w = rw zero-add
+
+-- a turn of the loop that copies s
+pub copied_more : (d : List ℕ) (at : ℕ) (s output : List ℕ) (i : ℕ) → at + length s ≤ length d → i < length s
+    → output ≡ written d at (take i s) → set output (at + i) (get_or s i 0) ≡ written d at (take (i + 1) s)
+copied_more d at s output i h k e =
+    let a : i ≤ length s = omega arith in
+    let n : length (take i s) ≡ i = length-take-le i s a in
+    let p : at + i ≡ at + length (take i s) = omega arith in
+    rw (add-one, take-suc s i 0 k, e)
+    (ap (λ m. set (written d at (take i s)) m (get_or s i 0)) p ∙ written-more d at (take i s) (get_or s i 0) (omega arith))
+
+pub copied-whole : (d : List ℕ) (at : ℕ) (s output : List ℕ) (i : ℕ) → i ≡ length s → output ≡ written d at (take i s)
+    → output ≡ written d at s
+copied-whole d at s output i q e = rw (q, take-length) at e

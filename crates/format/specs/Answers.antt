@@ -39,7 +39,7 @@ number NoValidChoice = 61
 number RankCount = 62
 number RankRange = 63
 
--- The refusal with the number k.
+-- The refusal with the number k; RankRange where k is no refusal's number (IsNumber says that it is one).
 unfoldable pub refusal_of : ℕ → Refusal
 refusal_of k =
     cond (eqb k 11) TooShort (

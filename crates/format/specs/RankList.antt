@@ -1,6 +1,6 @@
 -- The rank list that may be lent beside a sheet (document 02 (e)): "a count byte n, then n ranks from 1 to 9". A byte past its end reads 0.
 -- Assumes nothing.
-use Rattle.std.specs.Prelude.{Bool, cond, ◌&&◌, List, ℕ, ◌+◌, ltb, eqb, length, get_or, Option, None, Some}
+use Rattle.std.specs.Prelude.{Bool, ◌&&◌, List, ℕ, ◌+◌, ltb, eqb, length, get_or, Option, None, Some}
 use Rattle.labeling.specs.Conflicts.{every}
 use Rattle.format.specs.Sheet.{ask, up_to}
 
@@ -21,7 +21,3 @@ ranks_allowed n r = every (λ i. up_to 9 (rank_in (Some r) i)) n
 unfoldable pub ranks_no : ℕ → Option (List ℕ) → ℕ
 ranks_no n None = 0
 ranks_no n (Some r) = ask (rank_count_right n r) 62 (ask (ranks_allowed n r) 63 0)
-
--- What is lent by a call that has room for a list: the list r, if `ranked` says so.
-abbrev pub lent : Bool → List ℕ → Option (List ℕ)
-lent ranked r = cond ranked (Some r) None

@@ -25,6 +25,13 @@ pub const PLATE_ROOM: usize = 268;
 // The 16-bit numbers of workspace that a making and a load ask for.
 pub const WORKSPACE_CELLS: usize = 32768;
 
+// "for each outside point from the highest row down, its position and its margin column, a byte each": a pair of the outside section.
+#[derive(Clone, Copy)]
+pub struct Pair {
+    pub position: u8,
+    pub margin: u8,
+}
+
 // The byte at a place, 0 past the end.
 pub fn byte_at(bytes: &[u8], at: usize) -> u8
     ensures { result ≡ get_or bytes.now at 0 }
@@ -54,6 +61,8 @@ fn two_bytes(bytes: &[u8], at: usize) -> u16
         u16::from(byte_at(bytes, at))
     }
 }
+
+// THE FIELDS, each `two_bytes` at its place, under the documents' names.
 
 pub fn map_width(sheet: &[u8]) -> u16
     ensures { result ≡ map_width sheet.now }
@@ -117,7 +126,7 @@ pub fn within(a: u16, b: u16, length: u16) -> bool
     u32::from(a) < u32::from(b) + u32::from(length)
 }
 
-// A stretch of `length` from `start` on ends at `end` or before.
+// A stretch of `length` from `start` on ends at `end` or before: `!within(end, start, length)`, said the right way round.
 fn ends_by(start: u16, length: u16, end: u16) -> bool
     ensures { result ≡ leb (start + length) end }
 {
