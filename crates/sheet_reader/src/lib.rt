@@ -4,7 +4,7 @@
 ghost use Rattle.std.specs.Prelude.{◌≡◌, ℕ, ◌+◌, ◌*◌, ◌<◌, ◌≤◌, Bool, not, List, [], length, get_or};
 ghost use Rattle.std.specs.List.{list_all};
 ghost use Rattle.std.specs.Fn.{FnReturnsAt};
-ghost use Rattle.format.specs.Sheet.{point_count, column as column_of, row as row_of};
+ghost use Rattle.format.specs.Sheet.{point_count};
 ghost use Rattle.format.specs.Sheet.{up_to, both_up_to, on_map, same_call, same_pixel, unlike_earlier, point_no, points_no, questions_no, sheet_no};
 ghost use Rattle.format.specs.Answers.{no_of, outcome, outcome_of};
 ghost use Rattle.sheet_reader.specs.PixelNumber.{PixelNumber};
@@ -39,7 +39,8 @@ fn on_map(sheet: &[u8], point: SheetPoint) -> bool
     point.column < map_width(sheet) && point.row < map_height(sheet)
 }
 
-// The points before a position, six bytes each, where they are there, whole.
+// The points before a position, six bytes each. That they are there, whole, is asked here and by the two questions that compare them: it is true of
+// a position once 17 is answered yes.
 fn earlier(sheet: &[u8], position: u8) -> &[[u8; 6]]
     requires { 10 + 6 * position ≤ length sheet.now }
     ensures count { length result.now ≡ position }
@@ -52,7 +53,8 @@ fn earlier(sheet: &[u8], position: u8) -> &[[u8; 6]]
 // No point is one that `like` picks. A `for`: with `all` in its place, checking a sheet takes two fifths longer.
 fn none<F: Fn(&[u8; 6]) -> bool>(points: &[[u8; 6]], like: F) -> bool
     requires { F.IsAlwaysCallable like }
-    ensures { (p : List ℕ → Bool) → ((point : List ℕ) (b : Bool) → FnReturnsAt F.Fn like point b → b ≡ p point) → result ≡ list_all (λ point. not (p point)) points.now }
+    ensures { (p : List ℕ → Bool) → ((point : List ℕ) (b : Bool) → FnReturnsAt F.Fn like point b → b ≡ p point)
+        → result ≡ list_all (λ point. not (p point)) points.now }
 {
     for point in points {
         if like(point) {
