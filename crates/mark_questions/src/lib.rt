@@ -28,6 +28,7 @@ fn entry_no(n: u8, positions: &[u8], k: usize) -> Result<(), Refusal>
 fn entries_no(n: u8, positions: &[u8]) -> Result<(), Refusal>
     ensures { no_of result ≡ entries_no n positions.now (length positions.now) }
 {
+    // By place, as MarkQuestions `entry_no` speaks of an entry and the one before it.
     for k in 0..positions.len() {
         entry_no(n, positions, k)?;
     }

@@ -27,6 +27,7 @@ fn rank_allowed(rank: u8) -> bool
 fn ranks_allowed(ranks: &[u8], n: u8) -> bool
     ensures { result ≡ ranks_allowed n ranks.now }
 {
+    // By position, as the definition has it of any bytes: past the end a rank reads 0.
     (0..n).all(|i| rank_allowed(byte_at(ranks, 1 + usize::from(i))))
 }
 
