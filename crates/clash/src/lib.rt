@@ -132,7 +132,7 @@ impl SheetChoice<'_> {
         requires { first < point_count self.now.sheet.now }
         ensures { result ≡ clash_of (points_of self.now.sheet.now) (held self.now.inside) first }
     {
-        // An `or_else` here has no proof: of a closure that captures self, it ensures nothing.
+        // No `or_else`: the check knows nothing of what its closure gives, which borrows self. And no `or`, which looks for both.
         match self.own_clash(first) {
             None => self.later_clash(first),
             own => own,
