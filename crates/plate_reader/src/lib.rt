@@ -14,7 +14,7 @@ ghost use Rattle.plate_reader.specs.OutsideWalk.{outside_point, pair_follows, pa
 ghost use Rattle.plate_reader.specs.PlateAnswers.{plate_outcome, plate_outcome_of};
 
 use clash::{SheetChoice, choice_of, first_clash};
-use format::{Refusal, byte_at, column, next_margin, point_count, row, sheet_length};
+use format::{Pair, Refusal, byte_at, column, next_margin, point_count, row, sheet_length};
 use sheet_reader::questions_no;
 
 // The count of a plate's inside list.
@@ -106,13 +106,6 @@ fn stands_before(sheet: &[u8], i: u8, j: u8) -> bool
     let upper = row(sheet, i);
     let lower = row(sheet, j);
     lower < upper || lower == upper && column(sheet, i) < column(sheet, j)
-}
-
-// A pair of a plate's outside section: a position and its margin column.
-#[derive(Clone, Copy)]
-struct Pair {
-    position: u8,
-    margin: u8,
 }
 
 // A pair may follow another.
