@@ -1,4 +1,5 @@
 // The points of a sheet in both orders, with their weights, in the array that the best choice is made from.
+// An `as` here narrows a number that is proved to fit, for which there is no `From`; a `try_from` would need an `unwrap`.
 #![tactic(auto)]
 
 ghost use Rattle.std.specs.Prelude.{◌≡◌, option_copied};
@@ -26,7 +27,8 @@ pub mod word;
 // (docs/DECISIONS.md, 17).
 pub type PointArray = [u16; ARRAY_CELLS];
 
-// The array of an accepted sheet and a right rank list, or none.
+// The array of an accepted sheet and a right rank list, or none. That a sheet is accepted is asked of it here and where its best is chosen and
+// written, and is no type: no public call may ask for one.
 #[tactic(auto, unfolding(crate::specs::Numbers::blank_of))]
 fn both_orders(sheet: &[u8], ranks: Option<&[u8]>) -> PointArray
     requires { (sheet_no sheet.now ≡ 0) × (ranks_no (point_count sheet.now) (option_copied ranks) ≡ 0) }
