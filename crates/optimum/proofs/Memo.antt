@@ -1,6 +1,6 @@
 -- How the table is read, and how it grows. Assumes nothing.
-use Rattle.std.specs.Prelude.{◌≡◌, ℕ, ◌+◌, ◌-◌, ◌<◌, ◌≤◌, List, length, replicate, ◌≢◌, slice_index, refl}
-use Rattle.std.proofs.Common.{sym, ◌∙◌, ap, arith}
+use Rattle.std.specs.Prelude.{◌≡◌, ℕ, ◌+◌, ◌-◌, ◌<◌, ◌≤◌, List, length, replicate, ◌≢◌, slice_index, slice_set, refl}
+use Rattle.std.proofs.Common.{sym, ◌∙◌, ap, length-set, get_or-set_same, get_or-set_other, arith}
 use Rattle.std.proofs.Math.Seq.{paste}
 use Rattle.std.proofs.lemmas.List.Edits.{length-paste}
 use Rattle.std.proofs.lemmas.Slice.{put_mid-paste}
@@ -18,6 +18,7 @@ use Rattle.optimum.proofs.Entries.{length-entry, entry-note, entry-note-other, e
 use Rattle.optimum.specs.Slabs.{slab_place, Proper}
 use Rattle.optimum.specs.Table.{CutAt, Settled, Room, Memo, entry_at, Ready, Asked, Kept, Unnoted, Valued, Recoverable}
 use Rattle.optimum.proofs.Steps.{fitting-le, place-room}
+use Rattle.optimum.specs.declared.points.PackedPoints.{PackedPoints}
 use Rattle.optimum.specs.declared.table.Slab.{Slab}
 use Rattle.optimum.specs.declared.table.Found.{Found}
 
@@ -28,7 +29,7 @@ pasted-zero : (table : List ℕ) (at m i : ℕ) → at + m ≤ length table → 
 pasted-zero table at m i l u = grind (arith, places)
 
 -- The notes of n points are cleared.
-pub cleared : (s table zeros : List ℕ) (n m : ℕ) → n ≡ (heights_of s).n → m ≡ tet (n + 3) → notes + m ≤ length table
+pub cleared : (s : PackedPoints) (table zeros : List ℕ) (n m : ℕ) → n ≡ (heights_of s.cells).n → m ≡ tet (n + 3) → notes + m ≤ length table
     → zeros ≡ replicate m 0 → Unnoted s table (put_mid notes (notes + m - notes) table zeros)
 unfolding note_at
 cleared s table zeros n m e f l z =
@@ -39,20 +40,45 @@ cleared s table zeros n m e f l z =
           pasted-zero table notes m i l (omega (arith, f, ap (λ (h : ℕ). tet (h + 3)) e));
     })
 
+-- The notes before the cell i are cleared.
+pub record Clearing (table table' : List ℕ) (i : ℕ) : Type 0 where
+  pub low : notes ≤ i
+  pub same : length table' ≡ length table
+  pub none : (j : ℕ) → notes + j < i → note_at table' j ≡ 0
+
+-- They are cleared cell by cell.
+pub clearing-first : (table : List ℕ) → Clearing table table notes
+clearing-first table = record { low = omega arith; same = refl; none = λ j l. absurd (omega arith) }
+
+pub clearing-next : {table t : List ℕ} {i : ℕ} → i < length table → Clearing table t i → Clearing table (slice_set t i 0) (i + 1)
+unfolding note_at
+clearing-next {table} {t} {i} l x = record {
+  low = omega (arith, x.low);
+  same = length-set t i 0 ∙ x.same;
+  none = λ j u. same (notes + j) i
+      (λ e. rw e (get_or-set_same t i 0 0 (omega (arith, x.same))))
+      (λ ne. get_or-set_other t i (notes + j) 0 0 ne ∙ x.none j (omega arith));
+}
+
+pub clearing-last : {s : PackedPoints} {table t : List ℕ} {i n m : ℕ} → n ≡ (heights_of s.cells).n → m ≡ tet (n + 3) → notes + m ≤ i → Clearing table t i
+    → Unnoted s table t
+clearing-last {s} {table} {t} {i} {n} {m} e f l x =
+    record { same = x.same; none = λ j u. x.none j (omega (arith, f, ap (λ (h : ℕ). tet (h + 3)) e)) }
+
 -- A table without notes holds nothing that is wrong.
-pub memo-none : {s t table : List ℕ} → Room table → Unnoted s t table → Memo (heights_of s) table
+pub memo-none : {s : PackedPoints} {t table : List ℕ} → Room table → Unnoted s t table → Memo (heights_of s.cells) table
 memo-none {s} {t} {table} l u = record {
   room = l;
   right = λ x p ne.
       absurd (ne (u.none (slab_place x)
-      (place-rows x.lower x.upper x.reaching (heights_of s).n
-      (fitting-le (heights_of s) x.lower x.reaching p.fits) p.order p.upper)));
+      (place-rows x.lower x.upper x.reaching (heights_of s.cells).n
+      (fitting-le (heights_of s.cells) x.lower x.reaching p.fits) p.order p.upper)));
 }
 
 -- A NOTED ENTRY
 
 -- Its value,
-pub memo-value : {s table : List ℕ} {x : Slab} → Asked s table x → (v m i : ℕ) → m ≡ note_at table i
+pub memo-value : {s : PackedPoints} {table : List ℕ} {x : Slab} → Asked s table x → (v m i : ℕ) → m ≡ note_at table i
     → v ≡ value_at table i → i ≡ slab_place x → (m ≢ 0) → Valued s x v table table
 memo-value {s} {table} {x} a v m i e f g ne =
     let e' : m ≡ note_at table (slab_place x) = e ∙ ap (note_at table) g in
@@ -68,8 +94,8 @@ pub memo-noted : (table : List ℕ) (m i : ℕ) {p : ℕ} → m ≡ note_at tabl
 memo-noted table m i e f ne = less 0 m (λ l. l) (λ l. let z : m ≡ 0 = omega arith in absurd (ne (ap (note_at table) (sym f) ∙ (sym e ∙ z))))
 
 -- and its cut.
-pub memo-cut : {s t table : List ℕ} {x : Slab} → Recoverable s t x → {v : ℕ} → Valued s x v t table
-    → (m i : ℕ) → m ≡ note_at table i → i ≡ slab_place x → CutAt (heights_of s) x (m - 1)
+pub memo-cut : {s : PackedPoints} {t table : List ℕ} {x : Slab} → Recoverable s t x → {v : ℕ} → Valued s x v t table
+    → (m i : ℕ) → m ≡ note_at table i → i ≡ slab_place x → CutAt (heights_of s.cells) x (m - 1)
 memo-cut {s} {t} {table} {x} a v m i e g =
     let e' : m ≡ note_at table (slab_place x) = e ∙ ap (note_at table) g in
     let k = v.kept.memo.right x a.asked.ready.proper v.noted in
@@ -92,8 +118,8 @@ place-once {H} {x} {y} p q e =
     (fitting-le H x.lower x.reaching p.fits) p.order (fitting-le H y.lower y.reaching q.fits) q.order e in
     slab-same x y u.0 u.1 u.2
 
-module _ {s table : List ℕ} {x : Slab} (r : Ready s x) (m : Memo (heights_of s) table) (f : Found)
-    (k : Settled (heights_of s) x f) (i : ℕ) (g : i ≡ slab_place x) (l : i < entries) where
+module _ {s : PackedPoints} {table : List ℕ} {x : Slab} (r : Ready s x) (m : Memo (heights_of s.cells) table) (f : Found)
+    (k : Settled (heights_of s.cells) x f) (i : ℕ) (g : i ≡ slab_place x) (l : i < entries) where
   abbrev stored : List ℕ
   stored = with_entry table i f.value f.cut
 
@@ -104,7 +130,7 @@ module _ {s table : List ℕ} {x : Slab} (r : Ready s x) (m : Memo (heights_of s
   entry_here = let c : f.cut + 1 - 1 ≡ f.cut = omega arith in rw (entry_value table i f.value f.cut l m.room, note-here, c) refl
 
   -- Every entry is right: this one, and the others, which are as they were.
-  memo-more : Memo (heights_of s) stored
+  memo-more : Memo (heights_of s.cells) stored
   memo-more = record {
     room = omega (arith, length-entry table i f.value f.cut l, m.room);
     right = λ y p ne. same (slab_place y) i
@@ -112,7 +138,7 @@ module _ {s table : List ℕ} {x : Slab} (r : Ready s x) (m : Memo (heights_of s
         (λ z.
         let o : note_at stored (slab_place y) ≡ note_at table (slab_place y) = entry-note-other table i f.value f.cut l (slab_place y) z in
         let v : value_at stored (slab_place y) ≡ value_at table (slab_place y) =
-        entry-value-other table i f.value f.cut l (slab_place y) (place-room {s = s} (record { packed = r.packed; proper = p })) z in
+        entry-value-other table i f.value f.cut l (slab_place y) (place-room {s = s} (record { proper = p })) z in
         rw (v, o) (m.right y p (λ t. ne (o ∙ t))));
   }
 
@@ -125,11 +151,11 @@ module _ {s table : List ℕ} {x : Slab} (r : Ready s x) (m : Memo (heights_of s
 
 -- WHAT IS KEPT, one call after the other.
 
-pub kept_refl : {s table : List ℕ} → Memo (heights_of s) table → Kept s table table
+pub kept_refl : {s : PackedPoints} {table : List ℕ} → Memo (heights_of s.cells) table → Kept s table table
 kept_refl m = record { memo = m; same = refl }
 
-pub kept_trans : {s t t' t'' : List ℕ} → Kept s t t' → Kept s t' t'' → Kept s t t''
+pub kept_trans : {s : PackedPoints} {t t' t'' : List ℕ} → Kept s t t' → Kept s t' t'' → Kept s t t''
 kept_trans x y = record { memo = y.memo; same = y.same ∙ x.same }
 
-pub valued-after : {s : List ℕ} {x : Slab} {r : ℕ} {t t' t'' : List ℕ} → Kept s t t' → Valued s x r t' t'' → Valued s x r t t''
+pub valued-after : {s : PackedPoints} {x : Slab} {r : ℕ} {t t' t'' : List ℕ} → Kept s t t' → Valued s x r t' t'' → Valued s x r t t''
 valued-after k v = record { is = v.is; kept = kept_trans k v.kept; noted = v.noted }

@@ -4,16 +4,14 @@ ghost use Rattle.format.specs.Sheet.{sheet_no};
 ghost use Rattle.format.specs.MakingQuestions.{choice_no};
 ghost use Rattle.orders.specs.BothOrders.{BothOrders};
 ghost use Rattle.orders.specs.Arrays.{heights_of};
-ghost use Rattle.optimum.specs.Packed.{Packed};
 ghost use Rattle.optimum.specs.Table.{Room, Blank, Solved};
-ghost use Rattle.optimum.specs.Split.{Numbered};
 ghost use Rattle.optimum.specs.Choosing.{chosen_of};
 ghost use Rattle.optimum.specs.Chosen.{TwoLists};
 
 use crate::BestChoice;
 use crate::limits::write_limits;
 use crate::lists::{Flags, by_position, list_inside, list_outside};
-use crate::points::point_count;
+use crate::points::{PackedPoints, point_count};
 use crate::recovery::slab;
 use crate::table::{Slab, clear_notes};
 use crate::values::value_of;
@@ -29,33 +27,33 @@ fn clear(workspace: &mut [u16])
 }
 
 // The two lists of a choice of n points, by position.
-fn two_lists(n: u8, heights: &PointArray, choice: &[bool; 32]) -> BestChoice
-    requires { (n ≤ 32) × Numbered heights.now }
-    ensures { TwoLists n heights.now choice.now result }
+fn two_lists(n: u8, points: &PackedPoints, choice: &[bool; 32]) -> BestChoice
+    requires { n ≤ 32 }
+    ensures { TwoLists n points.now.cells choice.now result }
 {
     let inside = list_inside(choice, n);
-    let outside = list_outside(heights, choice);
+    let outside = list_outside(points, choice);
     BestChoice { inside, outside }
 }
 
 // Sets the flags of the inside points of the best choice, and gives one more than its weight, or 0 where no choice is without conflicts.
 // The table is in the workspace. The value is a number, as the recurrence has it.
-fn solve(heights: &PointArray, workspace: &mut [u16], flags: &mut Flags) -> u64
-    requires { Packed heights.now × Room workspace.old × Blank flags.old }
-    ensures { Solved (heights_of heights.now) flags.new result
+fn solve(points: &PackedPoints, workspace: &mut [u16], flags: &mut Flags) -> u64
+    requires { Room workspace.old × Blank flags.old }
+    ensures { Solved (heights_of points.now.cells) flags.new result
         × (length workspace.new ≡ length workspace.old) }
 {
-    clear_notes(heights, workspace);
+    clear_notes(points, workspace);
     let all = Slab {
         lower: 0,
-        upper: point_count(heights) + 1,
+        upper: point_count(&points.cells) + 1,
         reaching: 0,
     };
-    let best = value_of(heights, workspace, all);
+    let best = value_of(points, workspace, all);
     if best == 0 {
         return 0;
     }
-    slab(heights, workspace, flags, all);
+    slab(points, workspace, flags, all);
     best
 }
 
@@ -72,12 +70,13 @@ pub(crate) fn chosen(
         × (workspace.new ≡ replicate (length workspace.old) 0) }
 {
     write_limits(&mut heights);
+    let points = PackedPoints { cells: heights };
     let mut flags = [false; FIELD_CELLS];
-    let value = solve(&heights, workspace, &mut flags);
+    let value = solve(&points, workspace, &mut flags);
     clear(workspace);
     if value == 0 {
         return Err(Refusal::NoValidChoice);
     }
-    let choice = by_position(&heights, &flags);
-    Ok(two_lists(format::point_count(sheet), &heights, &choice))
+    let choice = by_position(&points, &flags);
+    Ok(two_lists(format::point_count(sheet), &points, &choice))
 }

@@ -1,20 +1,18 @@
 // Which labels overlap, and which points may be inside: the tests of the recurrence, as comparisons of numbers.
-ghost use Rattle.std.specs.Prelude.{◌≡◌, ◌+◌, ◌<◌, ◌≤◌};
+ghost use Rattle.std.specs.Prelude.{◌≡◌, ◌<◌, ◌≤◌};
 ghost use Rattle.recurrence.specs.Recurrence.{Point, overlaps, reaches_over, reach, may_be_inside, rows_differ};
 ghost use Rattle.orders.specs.Arrays.{heights_of};
-ghost use Rattle.optimum.specs.Packed.{Packed};
 ghost use Rattle.format.specs.Stretches.{stretches_overlap};
 ghost use Rattle.optimum.specs.Conflicts.{ends_below, Candidate};
 ghost use Rattle.orders.specs.Layout.{field_cells};
 
-use crate::points::{
-    allowed_at, column_at, high_at, label_height, label_width, point_count, row_at, top_at,
-};
+use crate::limits::label_below;
+use crate::points::{PackedPoints, column_at, label_height, label_width, point_count, row_at};
 use crate::table::Slab;
 use orders::PointArray;
 
-// Two stretches of length d, from x and from y on, share a place. The crate clash has this line over a plate's 16-bit numbers: neither
-// uses the other.
+// Two stretches of length d, from x and from y on, share a place. `clash` has this of the sheet's 16-bit numbers, whose sums it widens; here the
+// numbers are indices already, and narrowing them again would be longer than the line.
 fn stretches_overlap(x: usize, y: usize, d: usize) -> bool
     requires { (x < 65536) × (y < 65536) × (d < 65536) }
     ensures { result ≡ stretches_overlap x y d }
@@ -51,27 +49,27 @@ pub(crate) fn reaches_over(heights: &PointArray, p: usize, i: usize) -> bool
 }
 
 // The label that reaches over p, in the upper part of a slab that is cut at p: its point, or 0.
-pub(crate) fn reach(heights: &PointArray, slab: Slab, p: usize) -> usize
-    requires { Packed heights.now × Point (heights_of heights.now) p × (slab.reaching ≤ slab.lower) × (slab.lower < p) }
-    ensures { result ≡ reach (heights_of heights.now) slab.lower p slab.reaching }
+pub(crate) fn reach(points: &PackedPoints, slab: Slab, p: usize) -> usize
+    requires { Point (heights_of points.now.cells) p × (slab.reaching ≤ slab.lower) × (slab.lower < p) }
+    ensures { result ≡ reach (heights_of points.now.cells) slab.lower p slab.reaching }
 {
-    let top = top_at(heights, p);
+    let top = points.top(p);
     if top > slab.lower {
         return top;
     }
-    if slab.reaching != 0 && reaches_over(heights, p, slab.reaching) {
+    if slab.reaching != 0 && reaches_over(&points.cells, p, slab.reaching) {
         return slab.reaching;
     }
     0
 }
 
 // The label of p ends below the leader of b, if b is a point.
-#[tactic(auto, unfolding(crate::specs::Conflicts::ends_below))]
+#[tactic(auto, unfolding(crate::specs::Conflicts::ends_below, crate::specs::Limits::label_below))]
 fn ends_below(heights: &PointArray, p: usize, b: usize) -> bool
     requires { (p < field_cells) × (b < field_cells) }
     ensures { result ≡ ends_below (heights_of heights.now) p b }
 {
-    point_count(heights) < b || row_at(heights, p) + label_height(heights) <= row_at(heights, b)
+    point_count(heights) < b || label_below(heights, p, b)
 }
 
 // The point p isn't in the row of b, if b is a point.
@@ -84,14 +82,15 @@ pub(crate) fn rows_differ(heights: &PointArray, p: usize, b: usize) -> bool
 }
 
 // The open point p of a slab may be inside, where the points right of it in the slab are.
-pub(crate) fn may_be_inside(heights: &PointArray, slab: Slab, p: usize) -> bool
-    requires { Packed heights.now × Candidate (heights_of heights.now) slab.lower slab.upper slab.reaching p }
-    ensures { result ≡ may_be_inside (heights_of heights.now) ((heights_of heights.now).rank p)
+pub(crate) fn may_be_inside(points: &PackedPoints, slab: Slab, p: usize) -> bool
+    requires { Candidate (heights_of points.now.cells) slab.lower slab.upper slab.reaching p }
+    ensures { result ≡ may_be_inside (heights_of points.now.cells) ((heights_of points.now.cells).rank p)
         slab.lower slab.upper slab.reaching }
 {
-    allowed_at(heights, p)
-        && top_at(heights, p) <= slab.lower
-        && slab.upper <= high_at(heights, p)
+    let heights = &points.cells;
+    points.allowed(p)
+        && points.top(p) <= slab.lower
+        && slab.upper <= points.high(p)
         && ends_below(heights, p, slab.upper)
         && (slab.reaching == 0 || !overlaps(heights, p, slab.reaching))
 }

@@ -1,5 +1,6 @@
-// Top and high of each point.
-ghost use Rattle.std.specs.Prelude.{◌≡◌, ◌+◌, ◌<◌};
+// Top and high of each point, numbers as Comparisons `top_of` and `high_of` are. Three functions ask InOrder of the array: as a type it would be a
+// second one over these cells, only until PackedPoints is made of them.
+ghost use Rattle.std.specs.Prelude.{◌≡◌, ◌<◌};
 ghost use Rattle.recurrence.specs.Recurrence.{Point};
 ghost use Rattle.recurrence.specs.Comparisons.{high_of, top_of};
 ghost use Rattle.orders.specs.Arrays.{heights_of};

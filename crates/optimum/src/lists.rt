@@ -4,14 +4,14 @@ ghost use Rattle.recurrence.specs.Recurrence.{Point};
 ghost use Rattle.format.specs.Plate.{inside_below};
 ghost use Rattle.orders.specs.Arrays.{heights_of, position_at};
 ghost use Rattle.optimum.specs.Choosing.{listed};
-ghost use Rattle.optimum.specs.Split.{flagged, outside_positions, Numbered};
+ghost use Rattle.optimum.specs.Split.{flagged, outside_positions};
 ghost use Rattle.orders.specs.Layout.{field_cells};
 
-use crate::points::point_count;
+use crate::points::{PackedPoints, point_count};
 use orders::PointArray;
 use orders::layout::{FIELD_CELLS, POSITION_FIELD};
 
-// Positions one after the other, and how many they are. Cells past them are 0.
+// Positions one after the other, and how many they are. Cells past them are 0. Nothing here allocates, so it is no Vec.
 #[derive(Clone, Copy)]
 pub struct Positions {
     pub cells: [u8; 32],
@@ -61,14 +61,13 @@ fn position_at(heights: &PointArray, i: usize) -> u8
 }
 
 // From flags by height order to a choice by position: flag i is that of the point i in height order.
-pub(crate) fn by_position(heights: &PointArray, flags: &Flags) -> [bool; 32]
-    requires { Numbered heights.now }
-    ensures { (i : ℕ) → Point (heights_of heights.now) i
-        → flagged result (position_at heights.now i) ≡ flagged flags.now i }
+pub(crate) fn by_position(points: &PackedPoints, flags: &Flags) -> [bool; 32]
+    ensures { (i : ℕ) → Point (heights_of points.now.cells) i
+        → flagged result (position_at points.now.cells i) ≡ flagged flags.now i }
 {
     let mut choice = [false; 32];
-    for i in 1..point_count(heights) + 1 {
-        choice[usize::from(position_at(heights, i))] = flags[i];
+    for i in 1..point_count(&points.cells) + 1 {
+        choice[usize::from(position_at(&points.cells, i))] = flags[i];
     }
     choice
 }
@@ -88,13 +87,12 @@ pub(crate) fn list_inside(choice: &[bool; 32], n: u8) -> Positions
 }
 
 // The outside positions, from the highest row down: by height order, where the inside positions are listed by position.
-pub(crate) fn list_outside(heights: &PointArray, choice: &[bool; 32]) -> Positions
-    requires { Numbered heights.now }
-    ensures { result ≡ listed (outside_positions heights.now choice.now) }
+pub(crate) fn list_outside(points: &PackedPoints, choice: &[bool; 32]) -> Positions
+    ensures { result ≡ listed (outside_positions points.now.cells choice.now) }
 {
     let mut outside = Positions::new();
-    for i in (0..point_count(heights)).rev() {
-        let position = position_at(heights, i + 1);
+    for i in (0..point_count(&points.cells)).rev() {
+        let position = position_at(&points.cells, i + 1);
         if !choice[usize::from(position)] {
             outside.push(position);
         }

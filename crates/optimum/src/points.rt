@@ -1,4 +1,4 @@
-// Reading the points in height order from their array. orders/specs/Arrays.antt has its layout.
+// Reading the points in height order from their array. orders/specs/Layout.antt has its layout.
 #![tactic(auto, unfolding(orders::specs::Arrays::heights_of))]
 
 ghost use Rattle.std.specs.Prelude.{◌≡◌, ◌<◌, slice_index};
@@ -6,6 +6,7 @@ ghost use Rattle.recurrence.specs.Recurrence.{Point};
 ghost use Rattle.recurrence.specs.Comparisons.{high_of, top_of};
 ghost use Rattle.orders.specs.Arrays.{heights_of};
 ghost use Rattle.optimum.specs.Packed.{Packed};
+ghost use Rattle.optimum.specs.Split.{Numbered};
 ghost use Rattle.orders.specs.Sums.{tri, tet};
 ghost use Rattle.orders.specs.Layout.{field_cells, sum_cells, array_cells};
 
@@ -48,70 +49,6 @@ pub(crate) fn row_at(heights: &PointArray, i: usize) -> usize
     cell(heights, ROW_FIELD + i)
 }
 
-// The rank of the point i in right order.
-pub(crate) fn rank_at(heights: &PointArray, i: usize) -> usize
-    requires { i < field_cells }
-    ensures { (result ≡ (heights_of heights.now).rank i) × (result < 65536) }
-{
-    cell(heights, RANK_FIELD + i)
-}
-
-// The point of rank t in right order.
-pub(crate) fn at_rank(heights: &PointArray, t: usize) -> usize
-    requires { t < field_cells }
-    ensures { (result ≡ (heights_of heights.now).at_rank t) × (result < 65536) }
-{
-    cell(heights, AT_RANK_FIELD + t)
-}
-
-// The least point above i that is right of it and overlaps it, or n + 1.
-pub(crate) fn high_at(heights: &PointArray, i: usize) -> usize
-    requires { Packed heights.now × Point (heights_of heights.now) i }
-    ensures { result ≡ high_of (heights_of heights.now) i }
-{
-    cell(heights, HIGH_FIELD + i)
-}
-
-// The topmost point whose label reaches over i, or 0.
-pub(crate) fn top_at(heights: &PointArray, i: usize) -> usize
-    requires { Packed heights.now × Point (heights_of heights.now) i }
-    ensures { result ≡ top_of (heights_of heights.now) i }
-{
-    cell(heights, TOP_FIELD + i)
-}
-
-// The sum of the numbers below k.
-pub(crate) fn triangular(heights: &PointArray, k: usize) -> usize
-    requires { Packed heights.now × (k < sum_cells) }
-    ensures { (result ≡ tri k) × (result < 65536) }
-{
-    cell(heights, TRIANGULAR_FIELD + k)
-}
-
-// The sum of the triangular numbers below k.
-pub(crate) fn tetrahedral(heights: &PointArray, k: usize) -> usize
-    requires { Packed heights.now × (k < sum_cells) }
-    ensures { (result ≡ tet k) × (result < 65536) }
-{
-    cell(heights, TETRAHEDRAL_FIELD + k)
-}
-
-// The weight of the point i.
-pub(crate) fn weight_at(heights: &PointArray, i: usize) -> u64
-    requires { i < field_cells }
-    ensures { result ≡ (heights_of heights.now).weight i }
-{
-    read_value(heights, WEIGHT_FIELD + i)
-}
-
-// The point i may be inside.
-pub(crate) fn allowed_at(heights: &PointArray, i: usize) -> bool
-    requires { i < field_cells }
-    ensures { result ≡ (heights_of heights.now).allowed i }
-{
-    cell(heights, ALLOWED_FIELD + i) == 1
-}
-
 // The width of a label.
 pub(crate) fn label_width(heights: &PointArray) -> usize
     ensures { (result ≡ (heights_of heights.now).w) × (result < 65536) }
@@ -124,4 +61,79 @@ pub(crate) fn label_height(heights: &PointArray) -> usize
     ensures { (result ≡ (heights_of heights.now).h) × (result < 65536) }
 {
     cell(heights, HEIGHT_CELL)
+}
+
+// The points in height order, ready for the table and the lists: an array that top and high are written into. What limits.rs reads before
+// that takes the array, above.
+#[derive(Drop)]
+pub(crate) struct PackedPoints {
+    pub cells: PointArray,
+    ghost packed: { Packed cells },
+    ghost numbered: { Numbered cells },
+}
+
+impl PackedPoints {
+    // The rank of the point i in right order.
+    pub(crate) fn rank(&self, i: usize) -> usize
+        requires { i < field_cells }
+        ensures { (result ≡ (heights_of self.now.cells).rank i) × (result < 65536) }
+    {
+        cell(&self.cells, RANK_FIELD + i)
+    }
+
+    // The point of rank t in right order.
+    pub(crate) fn at_rank(&self, t: usize) -> usize
+        requires { t < field_cells }
+        ensures { (result ≡ (heights_of self.now.cells).at_rank t) × (result < 65536) }
+    {
+        cell(&self.cells, AT_RANK_FIELD + t)
+    }
+
+    // The weight of the point i.
+    pub(crate) fn weight(&self, i: usize) -> u64
+        requires { i < field_cells }
+        ensures { result ≡ (heights_of self.now.cells).weight i }
+    {
+        read_value(&self.cells, WEIGHT_FIELD + i)
+    }
+
+    // The point i may be inside.
+    pub(crate) fn allowed(&self, i: usize) -> bool
+        requires { i < field_cells }
+        ensures { result ≡ (heights_of self.now.cells).allowed i }
+    {
+        cell(&self.cells, ALLOWED_FIELD + i) == 1
+    }
+
+    // The least point above i that is right of it and overlaps it, or n + 1.
+    pub(crate) fn high(&self, i: usize) -> usize
+        requires { Point (heights_of self.now.cells) i }
+        ensures { result ≡ high_of (heights_of self.now.cells) i }
+    {
+        cell(&self.cells, HIGH_FIELD + i)
+    }
+
+    // The topmost point whose label reaches over i, or 0.
+    pub(crate) fn top(&self, i: usize) -> usize
+        requires { Point (heights_of self.now.cells) i }
+        ensures { result ≡ top_of (heights_of self.now.cells) i }
+    {
+        cell(&self.cells, TOP_FIELD + i)
+    }
+
+    // The sum of the numbers below k.
+    pub(crate) fn triangular(&self, k: usize) -> usize
+        requires { k < sum_cells }
+        ensures { (result ≡ tri k) × (result < 65536) }
+    {
+        cell(&self.cells, TRIANGULAR_FIELD + k)
+    }
+
+    // The sum of the triangular numbers below k.
+    pub(crate) fn tetrahedral(&self, k: usize) -> usize
+        requires { k < sum_cells }
+        ensures { (result ≡ tet k) × (result < 65536) }
+    {
+        cell(&self.cells, TETRAHEDRAL_FIELD + k)
+    }
 }

@@ -1,15 +1,13 @@
 // The table, in the workspace: an entry for each slab that was asked for, of four cells for its value and, behind all values, one for its
 // note.
-ghost use Rattle.std.specs.Prelude.{◌≡◌, ◌+◌, ◌<◌};
-ghost use Rattle.optimum.specs.Packed.{Packed};
+ghost use Rattle.std.specs.Prelude.{◌≡◌, ◌<◌};
 ghost use Rattle.optimum.specs.Entries.{note_at, with_entry};
 ghost use Rattle.optimum.specs.Slabs.{slab_has, slab_place, lower_part, upper_part};
 ghost use Rattle.optimum.specs.Table.{Room, Ready, Unnoted};
 ghost use Rattle.optimum.specs.Places.{entries};
 
-use crate::points::{point_count, tetrahedral, triangular};
+use crate::points::{PackedPoints, point_count};
 use crate::words::write_value;
-use orders::PointArray;
 
 // Where the notes begin: behind the four cells of each value.
 const NOTES: usize = 26180;
@@ -62,13 +60,13 @@ impl Slab {
     }
 }
 
-// The place of a slab. Here and below the array and the table are two references: the array is only read, and what a contract says of
-// the table alone would have to leave the array out, were they one.
-pub(crate) fn place(heights: &PointArray, slab: Slab) -> usize
-    requires { Ready heights.now slab }
+// The place of a slab. Here and below the points and the table are two references: the points are only read, and what a contract says of
+// the table alone would have to leave the points out, were they one.
+pub(crate) fn place(points: &PackedPoints, slab: Slab) -> usize
+    requires { Ready points.now slab }
     ensures { (result ≡ slab_place slab) × (result < entries) }
 {
-    tetrahedral(heights, slab.upper + 1) + triangular(heights, slab.lower + 1) + slab.reaching
+    points.tetrahedral(slab.upper + 1) + points.triangular(slab.lower + 1) + slab.reaching
 }
 
 // The note at a place: 0 as long as nothing is known of the slab, and then one more than its cut.
@@ -91,10 +89,10 @@ pub(crate) fn write_entry(table: &mut [u16], place: usize, found: Found)
 }
 
 // Clears the notes of all slabs of the points. The values need no clearing: without a note none is read.
-pub(crate) fn clear_notes(heights: &PointArray, table: &mut [u16])
-    requires { Packed heights.now × Room table.old }
-    ensures { Unnoted heights.now table.old table.new }
+pub(crate) fn clear_notes(points: &PackedPoints, table: &mut [u16])
+    requires { Room table.old }
+    ensures { Unnoted points.now table.old table.new }
 {
-    let end = NOTES + tetrahedral(heights, point_count(heights) + 3);
+    let end = NOTES + points.tetrahedral(point_count(&points.cells) + 3);
     table[NOTES..end].fill(0);
 }

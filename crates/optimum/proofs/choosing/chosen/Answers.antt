@@ -8,12 +8,13 @@ use Rattle.optimum.proofs.choosing.chosen.Goals as goal
 use Rattle.optimum.proofs.choosing.chosen.Goals.{After-clear}
 
 -- the array is ready for the table, with whatever ranks it is the sheet's
+pub invariant_of-points : goal.invariant_of-points
+invariant_of-points c =
+    let ready = prepared c.requires.1.1 c.write_limits.ensures in
+    record { packed = ready.packed; numbered = numbered _ (accepted _ c.requires.0).proper.few ready.arranged }
+
 pub solve-value-requires : goal.solve-value-requires
-solve-value-requires c = (
-  (prepared c.requires.1.1 c.write_limits.ensures).packed,
-  c.requires.2,
-  none-blank,
-)
+solve-value-requires c = (c.requires.2, none-blank)
 
 -- the workspace is left zero
 zero : (c : After-clear) → c.clear.new.workspace ≡ replicate (length c.args.workspace.now) 0
@@ -27,16 +28,8 @@ returns-then-value-eq0 c = (
   zero (goal.at.returns-then-value-eq0 c).After-clear,
 )
 
-pub by_position-choice-requires : goal.by_position-choice-requires
-by_position-choice-requires c =
-    numbered _ (accepted _ c.requires.0).proper.few (prepared c.requires.1.1 c.write_limits.ensures).arranged
-
 pub two_lists-requires : goal.two_lists-requires
-two_lists-requires c =
-    let few = (accepted _ c.requires.0).proper.few in (
-      omega (arith, few, c.point_count.ensures),
-      numbered _ few (prepared c.requires.1.1 c.write_limits.ensures).arranged,
-    )
+two_lists-requires c = omega (arith, (accepted _ c.requires.0).proper.few, c.point_count.ensures)
 
 pub returns : goal.returns
 returns c =

@@ -12,7 +12,7 @@ pub loop-i-preserved-then-not-choice-from : goal.loop-i-preserved-then-not-choic
 loop-i-preserved-then-not-choice-from c =
     let l = c.loop-i in
     let S : Choice = flagged c.args.choice.now in
-    let pos = position_at c.args.heights.now in
+    let pos = position_at c.args.points.now.cells in
     let p : c.position_at-position.result ≡ pos l.i = c.position_at-position.ensures ∙ ap pos (omega arith) in
     let e = rw (c.from.ensures, p) at c.if-not-choice-from.true in
     let f = rw (down-outside S pos l.i (omega arith) e) at l.invariant.1 in
@@ -22,7 +22,7 @@ pub loop-i-preserved : goal.loop-i-preserved
 loop-i-preserved c =
     let l = c.loop-i in
     let S : Choice = flagged c.args.choice.now in
-    let pos = position_at c.args.heights.now in
+    let pos = position_at c.args.points.now.cells in
     let p : c.position_at-position.result ≡ pos l.i = c.position_at-position.ensures ∙ ap pos (omega arith) in
     let e = rw (c.from.ensures, p) at c.if-not-choice-from.false in
     (omega arith, rw (down-inside S pos l.i (omega arith) e) at l.invariant.1)

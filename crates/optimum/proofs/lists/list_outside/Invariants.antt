@@ -5,5 +5,5 @@ use Rattle.optimum.proofs.lists.list_outside.Given as goal
 
 abbrev pub invariant-loop-i : goal.invariant-loop-i
 invariant-loop-i l =
-    (l.outside.count + l.i ≤ (heights_of l.heights).n)
-    × Listed (outside_positions l.heights l.choice) (outside_down (flagged l.choice) (position_at l.heights) l.i) l.outside
+    (l.outside.count + l.i ≤ (heights_of l.points.cells).n)
+    × Listed (outside_positions l.points.cells l.choice) (outside_down (flagged l.choice) (position_at l.points.cells) l.i) l.outside

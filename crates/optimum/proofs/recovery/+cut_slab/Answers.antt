@@ -19,7 +19,7 @@ cut-at_rank-p-requires t c =
 pub cut-reach-over-requires : goal.cut-reach-over-requires
 cut-reach-over-requires t c =
     let o = (cut_opened c.requires.0 c.requires.1 c.if-k-eq0.false c.at_rank-p.ensures.0).0 in
-    (o.ready.packed, o.point, (open-candidate o).fits, o.low)
+    (o.point, (open-candidate o).fits, o.low)
 
 pub cut-slab-requires : goal.cut-slab-requires
 cut-slab-requires t c =

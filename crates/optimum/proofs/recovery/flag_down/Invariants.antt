@@ -3,4 +3,4 @@ use Rattle.optimum.specs.Table.{Taking}
 use Rattle.optimum.proofs.recovery.flag_down.Given as goal
 
 abbrev pub invariant-loop-i : goal.invariant-loop-i
-invariant-loop-i l = Taking (heights_of l.heights) l.fn.slab l.k l.i l.initial.flags l.flags
+invariant-loop-i l = Taking (heights_of l.points.cells) l.fn.slab l.k l.i l.initial.flags l.flags

@@ -9,11 +9,10 @@ use Rattle.optimum.proofs.table.clear_notes.Goals.{After-tetrahedral-end}
 -- the cells are some of the table's
 within : (c : After-tetrahedral-end) → notes + c.tetrahedral-end.result ≤ length c.args.table.now
 within c =
-    let p = c.requires in
     omega (
       arith,
-      tet-below _ _ c.tetrahedral-end.ensures.0 (omega (arith, c.point_count.ensures.0, p.0.few)),
-      p.1,
+      tet-below _ _ c.tetrahedral-end.ensures.0 (omega (arith, c.point_count.ensures.0, c.args.points.now.packed.few)),
+      c.requires,
     )
 
 pub slice_bounds-fill-end : goal.slice_bounds-fill-end

@@ -2,6 +2,7 @@
 -- falls, and what is noted stays right. Assumes nothing.
 use Rattle.std.proofs.Common.{◌≡◌, ℕ, suc, List, Bool, true, sym, refl, ◌∙◌, arith}
 use Rattle.orders.specs.Arrays.{heights_of}
+use Rattle.optimum.specs.declared.points.PackedPoints.{PackedPoints}
 use Rattle.optimum.specs.declared.table.Slab.{Slab}
 use Rattle.optimum.specs.declared.values.Run.{Run}
 use Rattle.optimum.specs.Slabs.{slab_has}
@@ -37,7 +38,7 @@ outside_value-returns-then-not-rows_differ t c = record {
 pub outside_value-reach-over-requires : goal.outside_value-reach-over-requires
 outside_value-reach-over-requires t c =
     let o = c.requires.opened in
-    (o.ready.packed, o.point, (open-candidate o).fits, o.low)
+    (o.point, (open-candidate o).fits, o.low)
 
 pub outside_value-value_of-y-requires : goal.outside_value-value_of-y-requires
 outside_value-value_of-y-requires t c =
@@ -70,9 +71,9 @@ outside_value-returns t c =
 -- ONE STEP
 
 -- the point of rank t is open in the slab, where the code's test finds it there
-here : {s table : List ℕ} {x : Slab} {t : ℕ} {r : Run} → Asked s table x × Running (heights_of s) x (suc t) r
-    → (p : ℕ) → p ≡ (heights_of s).at_rank t → {b : Bool} → b ≡ slab_has x p → b ≡ true
-    → Opened s x p × ((heights_of s).rank p ≡ t)
+here : {s : PackedPoints} {table : List ℕ} {x : Slab} {t : ℕ} {r : Run} → Asked s table x × Running (heights_of s.cells) x (suc t) r
+    → (p : ℕ) → p ≡ (heights_of s.cells).at_rank t → {b : Bool} → b ≡ slab_has x p → b ≡ true
+    → Opened s x p × ((heights_of s.cells).rank p ≡ t)
 here {t = t} k p e h b = opened k.0.ready t p (omega (arith, k.1.below)) e (sym h ∙ b)
 
 pub step-returns-then-not-has : goal.step-returns-then-not-has
@@ -83,27 +84,27 @@ step-returns-then-not-has t c =
 pub step-may_be_inside-inside-requires : goal.step-may_be_inside-inside-requires
 step-may_be_inside-inside-requires t c =
     let o = (here c.requires _ c.at_rank-p.ensures.0 c.has.ensures c.if-not-has.false).0 in
-    (o.ready.packed, open-candidate o)
+    open-candidate o
 
 pub step-is_safe-requires : goal.step-is_safe-requires
 step-is_safe-requires t c =
     let o = (here c.requires _ c.at_rank-p.ensures.0 c.has.ensures c.if-not-has.false).0 in
-    (o.ready.packed, o.point.low, o.high, omega (arith, o.ready.proper.upper))
+    (o.point.low, o.high, omega (arith, o.ready.proper.upper))
 
-pub step-weight_at-requires : goal.step-weight_at-requires
-step-weight_at-requires t c =
+pub step-weight-requires : goal.step-weight-requires
+step-weight-requires t c =
     open-small (here c.requires _ c.at_rank-p.ensures.0 c.has.ensures c.if-not-has.false).0
 
 pub step-overflow_add-result : goal.step-overflow_add-result
 step-overflow_add-result t c =
     let o = (here c.requires _ c.at_rank-p.ensures.0 c.has.ensures c.if-not-has.false).0 in
-    record { fits = omega (arith, open-weight o c.weight_at.result c.weight_at.ensures, c.requires.1.room) }
+    record { fits = omega (arith, open-weight o c.weight.result c.weight.ensures, c.requires.1.room) }
 
 pub step-returns-then-is_safe : goal.step-returns-then-is_safe
 step-returns-then-is_safe t c =
     let h = here c.requires _ c.at_rank-p.ensures.0 c.has.ensures c.if-not-has.false in
     step-safe h c.requires.1 (kept_refl c.requires.0.memo) _ c.may_be_inside-inside.ensures _
-    c.is_safe.ensures c.if-is_safe.true _ c.weight_at.ensures
+    c.is_safe.ensures c.if-is_safe.true _ c.weight.ensures
 
 pub step-outside_value-requires : goal.step-outside_value-requires
 step-outside_value-requires t c =
@@ -119,21 +120,21 @@ step-returns-then-not-inside t c =
     step-stop h c.requires.1 out.kept _ c.may_be_inside-inside.ensures _ out.is
     refl _ c.better-best.ensures c.if-not-inside.true
 
-pub step-weight_at-requires-2 : goal.step-weight_at-requires-2
-step-weight_at-requires-2 t c =
+pub step-weight-requires-2 : goal.step-weight-requires-2
+step-weight-requires-2 t c =
     open-small (here c.requires _ c.at_rank-p.ensures.0 c.has.ensures c.if-not-has.false).0
 
 pub step-overflow_add-result-2 : goal.step-overflow_add-result-2
 step-overflow_add-result-2 t c =
     let o = (here c.requires _ c.at_rank-p.ensures.0 c.has.ensures c.if-not-has.false).0 in
-    record { fits = omega (arith, open-weight o c.weight_at-2.result c.weight_at-2.ensures, c.requires.1.room) }
+    record { fits = omega (arith, open-weight o c.weight-2.result c.weight-2.ensures, c.requires.1.room) }
 
 pub step-returns : goal.step-returns
 step-returns t c =
     let h = here c.requires _ c.at_rank-p.ensures.0 c.has.ensures c.if-not-has.false in
     let out = c.outside_value.ensures in
     step-on h c.requires.1 out.kept _ c.may_be_inside-inside.ensures _ out.is refl _
-    c.better-best.ensures _ c.if-not-inside.false c.weight_at-2.ensures
+    c.better-best.ensures _ c.if-not-inside.false c.weight-2.ensures
 
 -- THE VALUE
 
