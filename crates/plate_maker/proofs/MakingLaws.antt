@@ -62,9 +62,12 @@ pub making-workspace : {s : List ℕ} {r : Option (List ℕ)} {o w o' w' : List 
 making-workspace {w = w} m = m.workspace ∙ ap (λ (k : ℕ). workspace_after k w) (sym (λ i. (m.outcome i).no))
 
 -- refused: the number is the first no's
-pub refused-no : {s : List ℕ} {r : Option (List ℕ)} {o w o' w' : List ℕ} {x : Refusal} → Making s r o w (Err x) o' w'
-    → number x ≡ making_no s r (length o) (length w)
-refused-no m = λ i. (m.outcome i).no
+module _ {s : List ℕ} {r : Option (List ℕ)} {o w o' w' : List ℕ} {x : Refusal} (m : Making s r o w (Err x) o' w') where
+  pub refused-no : number x ≡ making_no s r (length o) (length w)
+  refused-no = λ i. (m.outcome i).no
+
+  pub refused-some : number x ≡ 0 → ⊥
+  refused-some = number-not-none x
 
 -- made: the best plate stands at the start of the output
 module _ {s : List ℕ} {r : Option (List ℕ)} {o w o' w' : List ℕ} {k : ℕ} (m : Making s r o w (Ok k) o' w') where

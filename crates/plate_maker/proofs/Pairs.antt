@@ -9,7 +9,7 @@ use Rattle.format.proofs.PlateLength.{placed-length, pairs-length}
 use Rattle.format.specs.Written.{written}
 use Rattle.format.proofs.Written.{written_none, written-more, written_twice, written-first}
 use Rattle.plate_maker.specs.Writing.{section_of, plate_of_lists, margin_after, placed_after, SoFar}
-use Rattle.plate_maker.specs.declared.writing.Pair.{Pair}
+use Rattle.format.specs.declared.Pair.{Pair}
 
 -- MARGIN COLUMNS
 
@@ -33,10 +33,10 @@ margin-small P count None i h = omega arith
 margin-small P count (Some p) i h = omega (arith, h, next-most P p.position p.margin i)
 
 -- so it fits in a byte
-pub last-small : (count : ℕ) (last : Option Pair) → MatchOption last Unit (λ p. p.margin ≤ count) → count < 255
+pub last_small : (count : ℕ) (last : Option Pair) → MatchOption last Unit (λ p. p.margin ≤ count) → count < 255
     → MatchOption last Unit (λ p. p.margin < 255)
-last-small count None h l = tt
-last-small count (Some p) h l = omega (arith, h)
+last_small count None h l = tt
+last_small count (Some p) h l = omega (arith, h)
 
 -- PAIR BY PAIR
 

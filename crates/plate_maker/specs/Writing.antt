@@ -4,7 +4,7 @@ use Rattle.labeling.specs.Points.{Points, Placed, next_margin, placed_from, plac
 use Rattle.format.specs.Sheet.{points_of}
 use Rattle.format.specs.Plate.{pairs}
 use Rattle.format.specs.Written.{written}
-use Rattle.plate_maker.specs.declared.writing.Pair.{Pair}
+use Rattle.format.specs.declared.Pair.{Pair}
 
 -- The outside section of a list of outside positions.
 unfoldable pub section_of : Points → List ℕ → List ℕ

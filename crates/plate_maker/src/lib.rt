@@ -19,7 +19,8 @@ fn output_fits(sheet: &[u8], room: usize) -> bool
     needed <= room
 }
 
-// Makes the best plate of the sheet, by the rank list if one is lent, at the start of the output, and answers its length.
+// Makes the best plate of the sheet, by the rank list if one is lent, at the start of the output, and answers its length. Sheet and list go side
+// by side from here down: a struct of the two would be made here and taken apart at each call.
 pub fn make_with(
     sheet: &[u8],
     ranks: Option<&[u8]>,

@@ -7,23 +7,18 @@ ghost use Rattle.optimum.specs.Choosing.{split_of};
 ghost use Rattle.format.specs.Written.{written};
 ghost use Rattle.plate_maker.specs.Writing.{section_of, margin_after, plate_of_lists};
 
-use format::copy_to;
+use format::{Pair, copy_to};
 use optimum::BestChoice;
 
-// An outside position and its margin column: a pair of the outside section.
-#[derive(Clone, Copy)]
-struct Pair {
-    position: u8,
-    margin: u8,
-}
-
 // The margin column of the outside position that comes next after `last`: 0 where there is none before it.
+#[tactic(auto, unfolding(crate::specs::Writing::margin_after))]
 fn margin_after(sheet: &[u8], last: Option<Pair>, position: u8) -> u8
     requires { MatchOption last Unit (λ pair. pair.margin < 255) }
     ensures { result ≡ margin_after (points_of sheet.now) last position }
 {
     match last {
         None => 0,
+        // At most 255, by what is required: a `try_from` would only add an `unwrap`.
         Some(pair) => format::next_margin(sheet, pair.position, pair.margin, position) as u8,
     }
 }
@@ -36,19 +31,20 @@ fn write_inside(list: &[u8], output: &mut [u8], at: usize) -> usize
 {
     let count = list.len();
     copy_to(list, output, at + 1);
-    output[at] = count as u8;
+    output[at] = count as u8; // at most 32: a `try_from` would only add an `unwrap`
     at + 1 + count
 }
 
 // Writes the positions of a list with their margin columns from the place `at` on.
+#[tactic(auto, using(crate::proofs::Pairs::last_small))]
 fn write_pairs(sheet: &[u8], list: &[u8], output: &mut [u8], at: usize)
     requires { (length list.now ≤ 32) × (at + 2 * length list.now ≤ length output.old) }
     ensures { output.new
         ≡ written output.old at (pairs (placed (points_of sheet.now) list.now)) }
 {
     let mut last = None;
-    for (k, position) in list.iter().enumerate() {
-        let position = *position;
+    // By the place in the list, since a margin column depends on the pair before.
+    for (k, &position) in list.iter().enumerate() {
         let margin = margin_after(sheet, last, position);
         output[at + 2 * k] = position;
         output[at + 2 * k + 1] = margin;
@@ -64,7 +60,7 @@ fn write_outside(sheet: &[u8], list: &[u8], output: &mut [u8], at: usize) -> usi
 {
     let count = list.len();
     write_pairs(sheet, list, output, at + 1);
-    output[at] = count as u8;
+    output[at] = count as u8; // at most 32: a `try_from` would only add an `unwrap`
     at + 1 + 2 * count
 }
 

@@ -10,11 +10,3 @@ overflow_cast-result c =
     let pair = c.in-Some.pair in
     let small = rw c.in-Some.is at c.requires in
     omega (arith, small, c.next_margin.ensures, next-most (points_of c.args.sheet.now) pair.position pair.margin c.args.position)
-
-pub returns-in-None : goal.returns-in-None
-unfolding margin_after
-returns-in-None c = rw c.in-None.is
-
-pub returns-in-Some : goal.returns-in-Some
-unfolding margin_after
-returns-in-Some c = rw c.in-Some.is c.next_margin.ensures

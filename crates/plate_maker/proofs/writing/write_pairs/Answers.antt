@@ -11,16 +11,12 @@ use Rattle.labeling.specs.Points.{Points, placed}
 use Rattle.format.specs.Sheet.{points_of}
 use Rattle.format.specs.Plate.{pairs}
 use Rattle.plate_maker.specs.Writing.{SoFar}
-use Rattle.plate_maker.proofs.Pairs.{last-small, so-far-none, so_far_more, so-far-whole}
+use Rattle.plate_maker.proofs.Pairs.{last_small, so-far-none, so_far_more, so-far-whole}
 use Rattle.plate_maker.proofs.writing.write_pairs.Goals as goal
 
 pub loop-k-init : goal.loop-k-init
 loop-k-init c =
     let a = c.args in (search rules, so-far-none (points_of a.sheet.now) a.output.now a.at a.list.now)
-
-pub margin_after-margin-requires : goal.margin_after-margin-requires
-margin_after-margin-requires c =
-    let l = c.loop-k in last-small l.k l.last l.invariant.1.small (omega arith)
 
 pub loop-k-preserved : goal.loop-k-preserved
 loop-k-preserved c =
