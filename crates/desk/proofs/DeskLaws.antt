@@ -36,6 +36,10 @@ module _ (d : Desk) (s : List ℕ) (l : Option (List ℕ)) (w : List ℕ) where
   unfolding load_of
   load-outcome-of = outcome-answered (load_no s l (length w)) tt (load-number s l (length w))
 
+-- the outcome where the first no is k
+load-outcome : (k : ℕ) → IsNumber k → outcome (load_answer_of k) ≡ outcome_of k
+load-outcome k n = outcome-answered k tt n
+
 -- THE PROMISE LEAVES ONE RESULT
 pub loading-exactly : (d : Desk) (s : List ℕ) (l : Option (List ℕ)) (w w' : List ℕ) (r : After LoadAnswer)
     → Loading d s l w r w' ↔ ((r ≡ load_of d s l w) × (w' ≡ workspace_after (no_of r.answer) w))
@@ -72,11 +76,11 @@ mark-number loaded n last l =
     (ask-number (number_left last) NoNumberLeft no-question-number)
 
 -- where no sheet is loaded, its points mean nothing
-pub points-asked : (loaded : Bool) (n last : ℕ) (l : List ℕ)
+pub points_asked : (loaded : Bool) (n last : ℕ) (l : List ℕ)
     → mark_no (is_some (then_some loaded n)) (unwrap_or (then_some loaded n) 0) last l ≡ mark_no loaded n last l
 unfolding mark_no loaded_list_no
-points-asked true n last l = refl
-points-asked false n last l = refl
+points_asked true n last l = refl
+points_asked false n last l = refl
 
 module _ (d : Desk) (l : List ℕ) (k : ℕ) (first : first_no d l ≡ k) where
   pub mark-yes : k ≡ 0 → mark_of d l ≡ mark_result d (Ok (record { number = next_number d.last; verdict = verdict_of d l }))
@@ -114,5 +118,5 @@ marking-exactly d l r = (
 )
 
 -- the desk after this answer
-pub mark-answered : (d : Desk) (l : List ℕ) (a : MarkAnswer) → a ≡ mark_answer_of d l (first_no d l) → Marking d l (mark_result d a)
-mark-answered d l a e = record { outcome = ap mark_outcome e ∙ mark-outcome d l (first_no d l) (mark-number _ _ _ l); desk = refl }
+pub mark_answered : (d : Desk) (l : List ℕ) (a : MarkAnswer) → a ≡ mark_answer_of d l (first_no d l) → Marking d l (mark_result d a)
+mark_answered d l a e = record { outcome = ap mark_outcome e ∙ mark-outcome d l (first_no d l) (mark-number _ _ _ l); desk = refl }

@@ -40,9 +40,9 @@ use Rattle.desk.specs.declared.Held.{Held}
 use Rattle.desk.specs.declared.Verdict.TheVariants.{Valid, Clash as ClashVerdict}
 
 -- no ranks are those of no points
-pub no-ranks-padded : (rank : ℕ → ℕ) → no_ranks ≡ padded most_points (ranks_below rank 0)
+pub no_ranks_padded : (rank : ℕ → ℕ) → no_ranks ≡ padded most_points (ranks_below rank 0)
 unfolding padded no_ranks ranks_below
-no-ranks-padded rank = refl
+no_ranks_padded rank = refl
 
 -- THE VERDICT, by the first clash x
 
@@ -52,12 +52,12 @@ module _ (s : List ℕ) (rank : ℕ → ℕ) (best : ℕ) (l : List ℕ) (x : Op
   unfolding verdict_at
   by-clash = ap (λ y. verdict_by y (list_sum rank l) best) (sym (first ∙ ap (λ p. first_clash (points_of s) (choice_of p)) (all_after 1 l)))
 
-  pub verdict-clash : (c : Clash) → x ≡ Some c → ClashVerdict c.first c.second c.kind ≡ verdict_at s rank best l
-  verdict-clash c e = sym (by-clash ∙ ap (λ y. verdict_by y (list_sum rank l) best) e)
+  pub verdict_clash : (c : Clash) → x ≡ Some c → ClashVerdict c.first c.second c.kind ≡ verdict_at s rank best l
+  verdict_clash c e = sym (by-clash ∙ ap (λ y. verdict_by y (list_sum rank l) best) e)
 
-  pub verdict-valid : {sum shortfall : ℕ} → x ≡ None → sum ≡ sum_of rank (take (length l - 1) (drop 1 l)) → shortfall ≡ best - sum
+  pub verdict_valid : {sum shortfall : ℕ} → x ≡ None → sum ≡ sum_of rank (take (length l - 1) (drop 1 l)) → shortfall ≡ best - sum
       → Valid sum shortfall ≡ verdict_at s rank best l
-  verdict-valid e c s =
+  verdict_valid e c s =
       let a = c ∙ ap (sum_of rank) (all_after 1 l) in
       ap₂ Valid a (s ∙ ap (λ n. best - n) a) ∙ sym (by-clash ∙ ap (λ y. verdict_by y (list_sum rank l) best) e)
 
@@ -94,11 +94,11 @@ module _ (s : List ℕ) (l : Option (List ℕ)) (o w o' w' : List ℕ) (answer :
   same-questions : making_no s l (length o) (length w) ≡ load_no s l (length w)
   same-questions = ap (λ k. making_no s l k (length w)) room ∙ making-load s l (length w)
 
-  pub load-workspace : w' ≡ workspace_after (load_no s l (length w)) w
-  load-workspace = m.workspace ∙ ap (λ k. workspace_after k w) same-questions
+  pub load_workspace : w' ≡ workspace_after (load_no s l (length w)) w
+  load_workspace = m.workspace ∙ ap (λ k. workspace_after k w) same-questions
 
-  pub load-refused : (x : Refusal) → answer ≡ Err x → Err x ≡ answered (load_no s l (length w)) (held-after s l)
-  load-refused x e =
+  pub load_refused : (x : Refusal) → answer ≡ Err x → Err x ≡ answered (load_no s l (length w)) (held-after s l)
+  load_refused x e =
       let n : Making s l o w (Err x) o' w' = rw e at m in
       answered-by (Err x) (load_no s l (length w)) (held-after s l) (refused-no n ∙ same-questions) tt
 
@@ -142,13 +142,13 @@ module _ (s : List ℕ) (l : Option (List ℕ)) (o w o' w' : List ℕ) (answer :
 
 module _ (d : Desk) (s : List ℕ) (l : Option (List ℕ)) (w w' : List ℕ) (answer : Result Held Refusal)
     (held : answer ≡ answered (load_no s l (length w)) (held-after s l)) (z : w' ≡ workspace_after (load_no s l (length w)) w) where
-  pub load-accepted : (h : Held) → answer ≡ Ok h → Loading d s l w (record { desk = with_held d h; answer = Ok tt }) w'
-  load-accepted h e =
+  pub load_accepted : (h : Held) → answer ≡ Ok h → Loading d s l w (record { desk = with_held d h; answer = Ok tt }) w'
+  load_accepted h e =
       let q = answered-ok (load_no s l (length w)) h (held-after s l) (sym e ∙ held) in
       record { outcome = rw q.0 refl; desk = ap (with_held d) q.1; workspace = z ∙ ap (λ k. workspace_after k w) q.0 }
 
-  pub load-not : (x : Refusal) → answer ≡ Err x → Loading d s l w (record { desk = d; answer = Err x }) w'
-  load-not x e =
+  pub load_not : (x : Refusal) → answer ≡ Err x → Loading d s l w (record { desk = d; answer = Err x }) w'
+  load_not x e =
       let q = answered-err (load_no s l (length w)) x (held-after s l) (load-number s l (length w)) (sym e ∙ held) in
       record {
         outcome = outcome-no {A = Unit {0}} (Err x) ∙ ap outcome_of q;

@@ -76,10 +76,10 @@ ranks-at rank (suc m) p l =
     (λ ne. get_or-append (ranks_below rank m) (rank m ∷ []) 0 p (omega (arith, ranks-length rank m)) ∙ ranks-at rank m p (omega arith))
 
 -- one more is written
-pub ranks-more : (rank : ℕ → ℕ) (n m : ℕ) → m < n
+pub ranks_more : (rank : ℕ → ℕ) (n m : ℕ) → m < n
     → set (padded n (ranks_below rank m)) m (rank m) ≡ padded n (ranks_below rank (suc m))
 unfolding padded ranks_below
-ranks-more rank n m l =
+ranks_more rank n m l =
     let e : n - length (ranks_below rank m) ≡ suc (n - suc m) = omega (arith, ranks-length rank m) in
     let q : n - length (ranks_below rank m ++ rank m ∷ []) ≡ n - suc m =
     omega (arith, length-append (ranks_below rank m) (rank m ∷ []), ranks-length rank m) in

@@ -19,6 +19,7 @@ pub sum-by : (rank : ℕ → ℕ) (l : List ℕ) → sum_of rank l ≡ sum_by ra
 unfolding sum_of
 sum-by rank l = is_sum_by (sum_of rank) rank refl (λ _ _. refl) l
 
+-- of two lists, one behind the other
 sum-append : (rank : ℕ → ℕ) (l m : List ℕ) → sum_of rank (l ++ m) ≡ sum_of rank l + sum_of rank m
 unfolding sum_of
 sum-append rank [] m = omega arith

@@ -13,7 +13,8 @@ mod sums;
 
 // What a load puts into the desk: the bytes of the sheet, zeros past its end; the ranks of its points, by position, zeros past the last;
 // whether a sheet is loaded; and its best sum of ranks. The spare byte stands where C's alignment would leave one unset. It is 0 in a fresh
-// desk and in what a load puts there, and goes along otherwise. C reads these fields, so a flag says what an Option would.
+// desk and in what a load puts there, and goes along otherwise. C reads these fields, so there are arrays, with
+// zeros past the end, and a flag that says what an Option would.
 #[repr(C)]
 #[derive(Clone, Copy)]
 pub struct Held {
@@ -32,7 +33,8 @@ pub struct Desk {
     pub last: u16,
 }
 
-// What the desk says of a marked list: valid, with its sum of ranks and its shortfall; or a clash, with two positions and its kind.
+// What the desk says of a marked list: valid, with its sum of ranks and its shortfall; or a clash, with two positions and its kind, "an enum
+// inside the verdict enum's clash case".
 #[derive(Clone, Copy)]
 pub enum Verdict {
     Valid {

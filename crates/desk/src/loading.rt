@@ -26,11 +26,13 @@ fn padded_sheet(sheet: &[u8]) -> [u8; SHEET_ROOM]
 }
 
 // The ranks of n points, by position, and zeros past them.
+#[tactic(auto, using(crate::proofs::Laws::no_ranks_padded, crate::proofs::Loaded::ranks_more), unfolding(crate::specs::Desk::no_ranks))]
 fn padded_ranks(ranks: Option<&[u8]>, n: u8) -> [u8; MOST_POINTS]
     requires { n ≤ most_points }
     ensures { result ≡ padded most_points (ranks_below (rank_in (option_copied ranks.entry)) n) }
 {
     let mut bytes = [0; MOST_POINTS];
+    // Over the positions, of which `rank_of` is asked; past them the bytes stay 0.
     for position in 0..n {
         bytes[usize::from(position)] = rank_of(ranks, position);
     }

@@ -11,6 +11,7 @@ use mark_questions::mark_no;
 
 impl Desk {
     // The first no of a mark at this desk.
+    #[tactic(auto, using(crate::proofs::DeskLaws::points_asked))]
     fn first_no(&self, list: &[u8]) -> Result<(), Refusal>
         ensures { no_of result ≡ first_no self.now list.now }
     {
@@ -20,6 +21,7 @@ impl Desk {
     }
 
     // The verdict on a list whose count byte is right, at this desk.
+    #[tactic(auto, using(crate::proofs::Laws::verdict_clash, crate::proofs::Laws::verdict_valid))]
     fn verdict_of(&self, list: &[u8]) -> Verdict
         requires { Counted list.now }
         ensures { result ≡ verdict_of self.now list.now }

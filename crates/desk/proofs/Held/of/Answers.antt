@@ -7,16 +7,16 @@ use Rattle.format.specs.Sizes.{most_points}
 use Rattle.format.specs.Padded.{padded}
 use Rattle.format.specs.RankList.{rank_in}
 use Rattle.desk.specs.Desk.{ranks_below}
-use Rattle.desk.proofs.Laws.{load-workspace, load-refused, made-few, made-short, load-made}
+use Rattle.desk.proofs.Laws.{load_workspace, load_refused, made-few, made-short, load-made}
 use Rattle.desk.proofs.Held.of.Goals as goal
 
 pub returns-in_err-make_with-clause-held : goal.returns-in_err-make_with-clause-held
 returns-in_err-make_with-clause-held c =
     let p = err_from_is_err_and c.from_residual.result c.from_residual.ensures.1 in
-    rw (p.1, p.2) (load-refused _ _ _ _ _ _ _ refl c.in_err-make_with.ensures _ refl)
+    rw (p.1, p.2) (load_refused _ _ _ _ _ _ _ refl c.in_err-make_with.ensures _ refl)
 
 pub returns-in_err-make_with-clause-workspace : goal.returns-in_err-make_with-clause-workspace
-returns-in_err-make_with-clause-workspace c = load-workspace _ _ _ _ _ _ _ refl c.in_err-make_with.ensures
+returns-in_err-make_with-clause-workspace c = load_workspace _ _ _ _ _ _ _ refl c.in_err-make_with.ensures
 
 pub padded_ranks-ranks-requires : goal.padded_ranks-ranks-requires
 padded_ranks-ranks-requires c =
@@ -34,4 +34,4 @@ returns-clause-held c =
     c.padded_sheet.ensures
 
 pub returns-clause-workspace : goal.returns-clause-workspace
-returns-clause-workspace c = load-workspace _ _ _ _ _ _ _ refl c.in_ok-make_with.ensures
+returns-clause-workspace c = load_workspace _ _ _ _ _ _ _ refl c.in_ok-make_with.ensures
