@@ -1,8 +1,10 @@
 mod Laws
 mod PairLaws
 pub mod Writing
--- THEOREMS: a number in decimal read back, no text is empty, the listing is what choice and margin rule say, and texts worked out by hand.
+-- THEOREMS: a number in decimal read back, no text is empty, the listing is what choice and margin rule say, texts worked out by hand, and
+-- a text put from a place on.
 pub mod Decimal
 pub mod NotEmpty
 pub mod ListedChoice
 pub mod LineCases
+pub mod Put

@@ -5,7 +5,8 @@ pub mod Listing
 pub mod DeskLines
 pub mod Rooms
 pub mod Writing
--- WHAT THEOREMS SAY: a number in decimal read back, and the listing that choice and margin rule give. The theorems are in the modules of
--- these names in proofs/.
+-- WHAT THEOREMS SAY: a number in decimal read back, the listing that choice and margin rule give, and a text put from a place on. The
+-- theorems are in the modules of these names in proofs/.
 pub mod Decimal
 pub mod ListedChoice
+pub mod Put

@@ -1,7 +1,7 @@
 // The lines of a refusal and of the desk's answers.
 ghost use Rattle.std.specs.Prelude.{◌≡◌, [], ◌+◌, ◌≤◌, length};
 ghost use Rattle.lines.specs.Rooms.{kind_room, verdict_room, line_room};
-ghost use Rattle.lines.specs.DeskLines.{refusal_line, loaded_line, kind_word, valid_text, clash_text, verdict_text, marked_line};
+ghost use Rattle.lines.specs.DeskLines.{refusal_line, loaded_line, kind_word, verdict_text, marked_line};
 ghost use Rattle.lines.specs.Writing.{Added};
 
 use crate::LINE_ROOM;

@@ -1,5 +1,5 @@
 // What the programs print, as bytes in a lent buffer. Each call answers the length of its text; or the buffer is too short for it, nothing
-// is written, and the answer is 0. No text is empty, and C is handed the length as it is: so 0, as `Prints` says, and no Option.
+// is written, and the answer is 0. No text is empty, so 0 says so, as `Prints` has it, and C gets `listing`'s answer as it is.
 #![tactic(auto)]
 
 ghost use Rattle.lines.specs.Rooms.{line_room};
@@ -9,7 +9,8 @@ ghost use Rattle.lines.specs.Writing.{Prints, PrintsListing};
 use desk::{Desk, Marked};
 use desk_lines::{loaded, marked, refusal};
 use format::Refusal;
-use plate_lines::listed;
+use plate_lines::add_listing;
+use text::Text;
 
 mod desk_lines;
 mod margins;
@@ -28,7 +29,9 @@ const LISTING_ROOM: usize = 24 + 16 * 255;
 pub fn listing(plate: &[u8], buffer: &mut [u8]) -> usize
     ensures { PrintsListing plate.now buffer.old result buffer.new }
 {
-    listed(plate).print(buffer)
+    let mut text = Text::new();
+    add_listing(&mut text, plate);
+    text.print(buffer)
 }
 
 // The line of a refusal with this number: any byte, since its promise is about every number.

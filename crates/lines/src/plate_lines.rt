@@ -1,5 +1,5 @@
 // The listing of a plate.
-ghost use Rattle.std.specs.Prelude.{[], ◌+◌, ◌≤◌, length};
+ghost use Rattle.std.specs.Prelude.{◌≡◌, [], ◌+◌, ◌≤◌, length};
 ghost use Rattle.format.specs.Sheet.{point_count};
 ghost use Rattle.lines.specs.Rooms.{first_line_room, points_room, listing_room, most_points};
 ghost use Rattle.lines.specs.Listing.{first_line, point_lines, listing_of};
@@ -39,12 +39,12 @@ fn add_first_line(text: &mut Text<LISTING_ROOM>, plate: &[u8])
     text.end();
 }
 
+// The whole listing, in a text that has nothing yet.
 #[tactic(auto, using(crate::proofs::Writing::added_more), unfolding(crate::specs::Listing::listing_of))]
-pub(crate) fn listed(plate: &[u8]) -> Text<LISTING_ROOM>
-    ensures { Added (listing_room (point_count plate.now)) (listing_of plate.now) [] result }
+pub(crate) fn add_listing(text: &mut Text<LISTING_ROOM>, plate: &[u8])
+    requires { text.old ≡ [] }
+    ensures { Added (listing_room (point_count plate.now)) (listing_of plate.now) [] text.new }
 {
-    let mut text = Text::new();
-    add_first_line(&mut text, plate);
-    add_points(&mut text, plate);
-    text
+    add_first_line(text, plate);
+    add_points(text, plate);
 }

@@ -1,5 +1,5 @@
 // A text in a buffer of its own, of at most N bytes: words and numbers go to its end. Nothing here allocates, so it is no String.
-ghost use Rattle.std.specs.Prelude.{◌≡◌, ℕ, List, [], ◌+◌, ◌≤◌, length, take};
+ghost use Rattle.std.specs.Prelude.{◌≡◌, ℕ, List, [], ◌∷◌, ◌+◌, ◌≤◌, length, take};
 ghost use Rattle.lines.specs.Text.{ascii, decimal, spaced};
 ghost use Rattle.lines.specs.Writing.{Prints, Added};
 
@@ -41,17 +41,26 @@ impl<const N: usize> Text<N> {
         self.length = end;
     }
 
-    // By hand, since no clause says that `write!` succeeds where there is room: what a text holds would be known only where it did.
+    fn byte(&mut self, byte: u8)
+        requires { length self.old + 1 ≤ N }
+        ensures { Added 1 (byte ∷ []) self.old self.new }
+    {
+        self.bytes[self.length] = byte;
+        self.length += 1;
+    }
+
+    // By hand: no clause says that `write!` succeeds where there is room, and `io`, whose `decimal` has a contract, is for the programs, while C's
+    // library has these lines too. An `as` here narrows a digit: a `try_from` would need an `unwrap`.
     #[tactic(auto, using(crate::proofs::Laws::added_small))]
     pub(crate) fn decimal(&mut self, number: u16)
         requires { length self.old + 5 ≤ N }
         ensures { Added 5 (decimal number) self.old self.new }
     {
         if number < 10 {
-            return self.word(&[b'0' + number as u8]);
+            return self.byte(b'0' + number as u8);
         }
         self.decimal(number / 10);
-        self.word(&[b'0' + (number % 10) as u8]);
+        self.byte(b'0' + (number % 10) as u8);
     }
 
     // A number after a space.

@@ -1,0 +1,54 @@
+-- The theorems on the definitions of specs/Put.antt. Assumes nothing.
+use Rattle.std.specs.Prelude.{◌≡◌, refl, List, [], ◌∷◌, ◌++◌, ℕ, ◌+◌, ◌≤◌, ◌<◌, length, take, drop, set}
+use Rattle.std.proofs.Common.{sym, ap, ◌∙◌, length-append, take_at, zero-add, arith}
+use Rattle.format.specs.Written.{written}
+use Rattle.format.proofs.Written.{written_none, written-more, written_twice, written-first}
+use Rattle.lines.specs.Writing.{Prints}
+use Rattle.lines.specs.Put.{Put}
+
+-- one byte
+pub put_one : (o : List ℕ) (at x : ℕ) → at < length o → Put 1 o at (x ∷ []) (at + 1) (set o at x)
+put_one o at x h =
+    let e : at ≡ at + length {A = ℕ} [] = omega arith in
+    record {
+      fits = omega arith;
+      next-is = refl;
+      text-is = ap (λ d. set d at x) (written_none o at) ∙ ap (λ i. set (written o at []) i x) e ∙ written-more o at [] x (omega arith);
+    }
+
+-- one text after another
+pub put-more : {a b : ℕ} {o o₁ o₂ k l : List ℕ} {at m n : ℕ} → at + a ≤ length o → Put a o at k m o₁ → Put b o₁ m l n o₂
+    → Put (a + b) o at (k ++ l) n o₂
+put-more {a} {b} {o} {o₁} {o₂} {k} {l} {at} {m} {n} room x y =
+    let f : length k ≤ a = x.fits in
+    let g : length l ≤ b = y.fits in
+    let p : m ≡ at + length k = x.next-is in
+    let q : n ≡ m + length l = y.next-is in
+    record {
+      fits = rw (length-append k l) (omega arith);
+      next-is = omega (arith, length-append k l);
+      text-is =
+          y.text-is
+          ∙ ap (λ i. written o₁ i l) p
+          ∙ ap (λ t. written t (at + length k) l) x.text-is
+          ∙ written_twice o at k l (omega arith);
+    }
+
+-- room for more
+pub put-looser : {a b : ℕ} {o o₁ l : List ℕ} {at m : ℕ} → a ≤ b → Put a o at l m o₁ → Put b o at l m o₁
+put-looser {a} {b} {o} {o₁} {l} {at} {m} h x =
+    let f : length l ≤ a = x.fits in
+    record { fits = omega arith; next-is = x.next-is; text-is = x.text-is }
+
+-- the text at the start
+put-text : {a : ℕ} {o o₁ l : List ℕ} {n : ℕ} → Put a o 0 l n o₁ → take n o₁ ≡ l
+put-text {a} {o} {o₁} {l} {n} x =
+    let e : n ≡ length l = x.next-is ∙ zero-add (length l) in
+    ap (take n) (x.text-is ∙ written-first o l) ∙ take_at l (drop (length l) o) n (sym e)
+
+-- a text that was put into a local buffer, and copied from there
+pub prints-put : {room : ℕ} {o o₁ l t t' : List ℕ} {n r : ℕ} → Put room o 0 l n o₁ → Prints (length (take n o₁)) (take n o₁) t r t'
+    → Prints room l t r t'
+prints-put {room} {o} {o₁} {l} {t} {t'} {n} {r} x y =
+    let z : Prints (length l) l t r t' = rw (put-text x) at y in
+    record { fits = x.fits; answer-is = z.answer-is; buffer-is = z.buffer-is }
