@@ -55,7 +55,7 @@ impl From<Result<usize, Refusal>> for MakeResult {
         MakeResult {
             number: number_of(&answer),
             spare: 0,
-            written: answer.unwrap_or(0) as u64,
+            written: answer.unwrap_or(0) as u64, // of a usize there is no `From`
         }
     }
 }
