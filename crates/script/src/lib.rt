@@ -33,7 +33,8 @@ pub enum CallKind {
     MakeRanked,
 }
 
-// A call of a known kind, each of whose two parts fills the first bytes of its buffer, none of them if the call has no such part.
+// A call of a known kind, each of whose two parts fills the first bytes of its buffer, none of them if the call has no such part. The lengths stand
+// here and no slices, since CallIn and CallTaken speak of the buffers.
 #[derive(Clone, Copy)]
 pub struct Call {
     pub kind: CallKind,

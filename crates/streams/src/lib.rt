@@ -97,6 +97,7 @@ fn write_some(rt: &(impl Print + Eprint), text: &[u8]) -> Result<usize, Failed>
 
 // Writes the text to standard output and answers how many of its bytes were written: all, unless a write failed, and then a line on
 // standard error says why. A write that takes no byte counts as one that failed.
+// The count is the answer, and no Result: that it is at most the length is all that can be promised of a write.
 // A `while`: a step is as many bytes as a write took.
 pub fn write_output(rt: &(impl Print + Eprint), text: &[u8]) -> usize
     ensures { result ≤ length text.now }
