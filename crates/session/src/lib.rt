@@ -31,7 +31,7 @@ fn print(rt: &(impl Print + Eprint), text: &[u8]) -> Result<(), Failed> {
     Ok(())
 }
 
-// Loads a sheet, with a rank list or without.
+// Loads a sheet, with a rank list or without: one of the desk's two loads.
 fn load(
     desk: Desk,
     sheet: &[u8],

@@ -66,10 +66,7 @@ pub(crate) fn run_sheet(
 ) -> Result<(), Failed> {
     let mut output = [0u8; PLATE_ROOM];
     let mut workspace = [0u16; WORKSPACE_CELLS];
-    let answer = match ranks {
-        None => plate_maker::make(sheet, &mut output, &mut workspace),
-        Some(ranks) => plate_maker::make_ranked(sheet, ranks, &mut output, &mut workspace),
-    };
+    let answer = plate_maker::make_with(sheet, ranks, &mut output, &mut workspace);
     print_making(rt, answer, &output)
 }
 
