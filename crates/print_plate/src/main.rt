@@ -33,14 +33,8 @@ fn write_text(rt: &(impl Print + Eprint), sheet: &[u8], text: &[u8])
     write_output(rt, text);
 }
 
-fn text_room() -> [u8; TEXT_ROOM]
-    ensures { text_room ≡ length result }
-{
-    [0; TEXT_ROOM]
-}
-
 fn print_plate_of(rt: &(impl Print + Eprint), sheet: &[u8]) {
-    let mut text = text_room();
+    let mut text = [0; TEXT_ROOM];
     let n = put_text(sheet, &mut text);
     write_text(rt, sheet, &text[..n]);
 }
