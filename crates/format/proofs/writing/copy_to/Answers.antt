@@ -1,23 +1,28 @@
--- `format::copy_to` meets its contract. Assumes nothing.
-use Rattle.std.proofs.Common.{◌+◌, ◌-◌, ◌<◌, length, refl, sym, arith}
-use Rattle.std.proofs.lemmas.Slice.{put_mid-paste}
+-- `format::copy_to` meets its contract: after i turns the first i bytes are copied. Assumes nothing.
+use Rattle.std.proofs.Common.{◌≡◌, ◌+◌, ◌<◌, length, sym, ◌∙◌, ap, arith}
+use Rattle.std.specs.Prelude.{take}
 use Rattle.std.proofs.Math.Seq.{take-length}
 use Rattle.format.specs.Written.{written}
-use Rattle.format.proofs.Written.{written-fits, written-no-room}
+use Rattle.format.proofs.Written.{written-fits, written-no-room, written_none, copied_more}
 use Rattle.format.proofs.writing.copy_to.Goals as goal
 use Rattle.format.proofs.writing.copy_to.Goals.{else-at-output-via-then-at-output+else-bytes-output, else-at-output-via-else-at-output}
 
-pub returns-then-bytes-output : goal.returns-then-bytes-output
-unfolding written
-returns-then-bytes-output c =
+pub loop-i-init : goal.loop-i-init
+loop-i-init c = written_none c.args.output.now c.args.at
+
+pub loop-i-preserved : goal.loop-i-preserved
+loop-i-preserved c =
     let a = c.args in
-    let n = length a.bytes.now in
-    rw (
-      written-fits a.output.now a.at a.bytes.now (omega arith),
-      put_mid-paste a.at (a.at + n - a.at) a.output.now _ a.bytes.now n c.copy_from_slice.ensures.after (omega arith) refl,
-      take-length,
-    )
-    refl
+    copied_more a.output.now a.at a.bytes.now c.loop-i.output c.loop-i.i (omega arith) (omega arith) c.loop-i.invariant
+
+pub returns-after-loop-i : goal.returns-after-loop-i
+returns-after-loop-i c =
+    let a = c.args in
+    let all : c.loop-i.i ≡ length a.bytes.now = omega (arith, c.loop-i.auto.i-end, c.loop-i-test.false) in
+    c.loop-i.invariant
+    ∙ ap (λ k. written a.output.now a.at (take k a.bytes.now)) all
+    ∙ ap (written a.output.now a.at) (take-length a.bytes.now)
+    ∙ sym (written-fits a.output.now a.at a.bytes.now (omega arith))
 
 pub returns-else-at-output : goal.returns-else-at-output
 returns-else-at-output c =
