@@ -1,5 +1,5 @@
 -- Texts worked out by hand: one table of listings, and a line of each kind of the desk's. Assumes nothing.
-use Rattle.std.specs.Prelude.{◌≡◌, refl, Bool, true, ◌&&◌, List, [], ◌∷◌, ◌++◌, ℕ, replicate, Ok, Err}
+use Rattle.std.specs.Prelude.{◌≡◌, refl, Bool, true, ◌&&◌, List, [], ◌∷◌, ◌++◌, ℕ, replicate, Result, Ok, Err}
 use Rattle.labeling.specs.Points.{among}
 use Rattle.labeling.proofs.Decide.{and_left, and_right}
 use Rattle.format.specs.declared.refusal.Refusal.TheVariants.{WorkspaceRoom, NoSheet, RankCount}
@@ -8,13 +8,15 @@ use Rattle.format.proofs.Bytes.{dec-bytes}
 use Rattle.format.specs.Padded.{padded}
 use Rattle.format.specs.Sheet.{two_bytes}
 use Rattle.clash.specs.declared.ClashKind.TheVariants.{Labels, LabelAndLeader, Overhang, TwoLeaders}
-use Rattle.desk.specs.Desk.{MarkAnswer, held_of, with_held, fresh}
+use Rattle.desk.specs.Desk.{held_of, with_held, fresh}
 use Rattle.desk.specs.declared.Desk.{Desk}
+use Rattle.desk.specs.declared.Marked.{Marked}
 use Rattle.desk.specs.declared.Verdict.{Verdict}
 use Rattle.desk.specs.declared.Verdict.TheVariants.{Valid, Clash}
 use Rattle.plate_reader.proofs.Cases.{sheet, sheet1, sheet2, sheet_of_five, stacked}
 use Rattle.plate_reader.specs.PlateQuestions.{inside_list, outside_pairs}
 use Rattle.lines.specs.Text.{ascii, decimal_in, decimal, spaced}
+use Rattle.lines.specs.Numbered.{numbered}
 use Rattle.lines.specs.Listing.{columns_used, margin_of, first_line, place, point_line, point_lines, listing_of}
 use Rattle.lines.specs.DeskLines.{refusal_line, loaded_line, load_line, valid_text, clash_text, marked_line, mark_line}
 
@@ -82,11 +84,11 @@ abbrev greatest : Desk
 greatest = with_held fresh (held_of (1 ∷ 20 ∷ 0 ∷ 10 ∷ 0 ∷ 4 ∷ 0 ∷ 2 ∷ 0 ∷ 32 ∷ []) (replicate 32 9) 288)
 
 pub load-lines : (load_line (Ok tt) twelve ≡ ascii "loaded 12 10\n") × (load_line (Ok tt) greatest ≡ ascii "loaded 32 288\n")
-    × (load_line (Err WorkspaceRoom) twelve ≡ ascii "refused 22\n") × (load_line (Err RankCount) twelve ≡ ascii "refused 62\n")
+    × (load_line (numbered (Err WorkspaceRoom)) twelve ≡ ascii "refused 22\n") × (load_line (numbered (Err RankCount)) twelve ≡ ascii "refused 62\n")
 unfolding padded decimal_in decimal spaced refusal_line loaded_line
 load-lines = (refl, refl, refl, refl)
 
-abbrev marked : ℕ → Verdict → MarkAnswer
+abbrev marked : ℕ → Verdict → Result Marked ℕ
 marked number verdict = Ok (record { number = number; verdict = verdict })
 
 -- "On P1, a fresh desk gives list 02 01 02 number 1, count 2, shortfall 0; 01 00 number 2, clash of 0 and 1; 00 number 3, shortfall 2."
@@ -99,6 +101,6 @@ pub mark-lines :
     (mark_line (marked 5 (Clash 0 1 TwoLeaders)) ≡ ascii "5 clash 0 1 leaders\n") ×
     (mark_line (marked 6 (Valid 288 0)) ≡ ascii "6 valid 288 0\n") ×
     (mark_line (marked 7 (Valid 0 288)) ≡ ascii "7 valid 0 288\n") ×
-    (mark_line (Err NoSheet) ≡ ascii "refused 51\n")
+    (mark_line (numbered (Err NoSheet)) ≡ ascii "refused 51\n")
 unfolding decimal_in decimal spaced refusal_line valid_text clash_text marked_line
 mark-lines = (refl, refl, refl, refl, refl, refl, refl, refl, refl)

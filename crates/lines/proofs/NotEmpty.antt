@@ -1,11 +1,10 @@
 -- No text is empty: so an answer of 0 says that the buffer is too short. Assumes nothing.
-use Rattle.std.specs.Prelude.{List, ◌++◌, ℕ, ◌≤◌, length, Ok, Err}
+use Rattle.std.specs.Prelude.{List, ◌++◌, ℕ, ◌≤◌, length, Result, Ok, Err}
 use Rattle.std.proofs.Common.{length-append, arith}
-use Rattle.format.specs.Answers.{number}
 use Rattle.format.specs.Sheet.{point_count}
 use Rattle.plate_reader.specs.PlateQuestions.{inside_count, outside_pairs}
-use Rattle.desk.specs.Desk.{LoadAnswer, MarkAnswer}
 use Rattle.desk.specs.declared.Desk.{Desk}
+use Rattle.desk.specs.declared.Marked.{Marked}
 use Rattle.lines.specs.Text.{ascii, decimal, spaced}
 use Rattle.lines.specs.Listing.{columns_used, first_line, point_lines, listing_of}
 use Rattle.lines.specs.DeskLines.{refusal_line, loaded_line, load_line, verdict_text, marked_line, mark_line}
@@ -26,12 +25,12 @@ pub refusal-some : (k : ℕ) → 1 ≤ length (refusal_line k)
 unfolding refusal_line
 refusal-some k = ended (ascii "refused" ++ spaced k)
 
-pub load-some : (a : LoadAnswer) (d : Desk) → 1 ≤ length (load_line a d)
+pub load-some : (a : Result (Unit {0}) ℕ) (d : Desk) → 1 ≤ length (load_line a d)
 unfolding loaded_line
 load-some (Ok x) d = ended (ascii "loaded" ++ spaced (point_count d.held.sheet) ++ spaced d.held.best)
-load-some (Err r) d = refusal-some (number r)
+load-some (Err k) d = refusal-some k
 
-pub mark-some : (a : MarkAnswer) → 1 ≤ length (mark_line a)
+pub mark-some : (a : Result Marked ℕ) → 1 ≤ length (mark_line a)
 unfolding marked_line
 mark-some (Ok m) = ended (decimal m.number ++ verdict_text m.verdict)
-mark-some (Err r) = refusal-some (number r)
+mark-some (Err k) = refusal-some k

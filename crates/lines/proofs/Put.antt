@@ -1,8 +1,8 @@
 -- The theorems on the definitions of specs/Put.antt. Assumes nothing.
-use Rattle.std.specs.Prelude.{◌≡◌, refl, List, [], ◌∷◌, ◌++◌, ℕ, ◌+◌, ◌≤◌, ◌<◌, length, take, drop, set}
-use Rattle.std.proofs.Common.{sym, ap, ◌∙◌, length-append, take_at, zero-add, arith}
+use Rattle.std.specs.Prelude.{◌≡◌, cond, refl, List, [], ◌∷◌, ◌++◌, ℕ, ◌+◌, ◌≤◌, ◌<◌, leb, length, take, drop, set}
+use Rattle.std.proofs.Common.{sym, ap, ◌∙◌, length-append, take_at, le-leb, zero-add, arith}
 use Rattle.format.specs.Written.{written}
-use Rattle.format.proofs.Written.{written_none, written-more, written_twice, written-first}
+use Rattle.format.proofs.Written.{written_none, written-more, written_twice, written-first, written-fits}
 use Rattle.lines.specs.Writing.{Prints}
 use Rattle.lines.specs.Put.{Put}
 
@@ -41,7 +41,7 @@ put-looser {a} {b} {o} {o₁} {l} {at} {m} h x =
     record { fits = omega arith; next-is = x.next-is; text-is = x.text-is }
 
 -- the text at the start
-put-text : {a : ℕ} {o o₁ l : List ℕ} {n : ℕ} → Put a o 0 l n o₁ → take n o₁ ≡ l
+pub put-text : {a : ℕ} {o o₁ l : List ℕ} {n : ℕ} → Put a o 0 l n o₁ → take n o₁ ≡ l
 put-text {a} {o} {o₁} {l} {n} x =
     let e : n ≡ length l = x.next-is ∙ zero-add (length l) in
     ap (take n) (x.text-is ∙ written-first o l) ∙ take_at l (drop (length l) o) n (sym e)
@@ -52,3 +52,11 @@ pub prints-put : {room : ℕ} {o o₁ l t t' : List ℕ} {n r : ℕ} → Put roo
 prints-put {room} {o} {o₁} {l} {t} {t'} {n} {r} x y =
     let z : Prints (length l) l t r t' = rw (put-text x) at y in
     record { fits = x.fits; answer-is = z.answer-is; buffer-is = z.buffer-is }
+
+-- what a call writes into a buffer that it fits is put at its start
+pub put-printed : {room : ℕ} {l o o' : List ℕ} {n : ℕ} → length l ≤ length o → Prints room l o n o' → Put room o 0 l n o'
+put-printed {room} {l} {o} {o'} {n} f x = record {
+  fits = x.fits;
+  next-is = x.answer-is ∙ ap (λ b. cond b (length l) 0) (le-leb (length l) (length o) f) ∙ sym (zero-add (length l));
+  text-is = x.buffer-is ∙ written-fits o 0 l (rw (zero-add (length l)) f);
+}

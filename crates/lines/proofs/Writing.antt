@@ -1,9 +1,10 @@
 -- The theorems on the definitions of specs/Writing.antt. Assumes nothing.
 use Rattle.std.specs.Prelude.{◌≡◌, cond, List, ◌++◌, ℕ, ◌+◌, ◌≤◌, leb, length, take, drop}
-use Rattle.std.proofs.Common.{sym, ap, ◌∙◌, append_assoc, length-append, take_at, le-leb, leb-true, zero-add, le_trans, arith}
+use Rattle.std.proofs.Common.{sym, ap, ◌∙◌, append_assoc, length-append, le-leb, leb-true, zero-add, le_trans, arith}
 use Rattle.labeling.proofs.Decide.{decide}
 use Rattle.format.proofs.Written.{written-fits, written-first}
 use Rattle.lines.specs.Writing.{Prints, Added}
+use Rattle.lines.proofs.Put.{put-text, put-printed}
 
 -- a text that fits is counted, and stands at the start
 prints-fitting : {room : ℕ} {l o o' : List ℕ} {n : ℕ} → length l ≤ length o → Prints room l o n o'
@@ -15,9 +16,7 @@ prints-fitting {room} {l} {o} {o'} {n} f x = (
 
 -- what a buffer with enough room has at its start is the text
 pub prints-whole : {room : ℕ} {l o o' : List ℕ} {n : ℕ} → room ≤ length o → Prints room l o n o' → take n o' ≡ l
-prints-whole {room} {l} {o} {o'} {n} h x =
-    let e = prints-fitting (le_trans x.fits h) x in
-    ap (take n) e.1 ∙ take_at l (drop (length l) o) n (sym e.0)
+prints-whole h x = put-text (put-printed (le_trans x.fits h) x)
 
 -- what is counted is there
 pub prints-within : {room : ℕ} {l o o' : List ℕ} {n : ℕ} → Prints room l o n o' → n ≤ length o'

@@ -1,12 +1,11 @@
 -- The lines of a refusal and of the desk's answers: `refused K`, `loaded N BEST`, `NUMBER valid SUM SHORTFALL` and
 -- `NUMBER clash FIRST SECOND KIND`. Assumes nothing.
-use Rattle.std.specs.Prelude.{List, ◌++◌, ℕ, Ok, Err}
-use Rattle.format.specs.Answers.{number}
+use Rattle.std.specs.Prelude.{List, ◌++◌, ℕ, Result, Ok, Err}
 use Rattle.format.specs.Sheet.{point_count}
 use Rattle.clash.specs.declared.ClashKind.{ClashKind}
 use Rattle.clash.specs.declared.ClashKind.TheVariants.{Labels, LabelAndLeader, Overhang, TwoLeaders}
-use Rattle.desk.specs.Desk.{LoadAnswer, MarkAnswer}
 use Rattle.desk.specs.declared.Desk.{Desk}
+use Rattle.desk.specs.declared.Marked.{Marked}
 use Rattle.desk.specs.declared.Verdict.{Verdict}
 use Rattle.desk.specs.declared.Verdict.TheVariants.{Valid, Clash}
 use Rattle.lines.specs.Text.{ascii, decimal, spaced}
@@ -19,10 +18,10 @@ refusal_line k = ascii "refused" ++ spaced k ++ ascii "\n"
 unfoldable pub loaded_line : Desk → List ℕ
 loaded_line d = ascii "loaded" ++ spaced (point_count d.held.sheet) ++ spaced d.held.best ++ ascii "\n"
 
--- The line of a load with this answer, which gave the desk d.
-abbrev pub load_line : LoadAnswer → Desk → List ℕ
+-- The line of a load with this answer, which gave the desk d. A refusal is a number here, any at all.
+abbrev pub load_line : Result (Unit {0}) ℕ → Desk → List ℕ
 load_line (Ok x) d = loaded_line d
-load_line (Err r) d = refusal_line (number r)
+load_line (Err k) d = refusal_line k
 
 -- "whether two labels met or a label met a leader"; an overhang "gets its own kind" (document 02 (a)); "a mark can name two leaders as its
 -- clash" (document 02 (c))
@@ -49,6 +48,6 @@ unfoldable pub marked_line : ℕ → Verdict → List ℕ
 marked_line number verdict = decimal number ++ verdict_text verdict ++ ascii "\n"
 
 -- The line of a mark with this answer.
-abbrev pub mark_line : MarkAnswer → List ℕ
+abbrev pub mark_line : Result Marked ℕ → List ℕ
 mark_line (Ok m) = marked_line m.number m.verdict
-mark_line (Err r) = refusal_line (number r)
+mark_line (Err k) = refusal_line k

@@ -2,6 +2,7 @@
 -- `PrintsListing` of Writing, the rest of which is for proofs).
 pub mod Text
 pub mod Listing
+pub mod Numbered
 pub mod DeskLines
 pub mod Rooms
 pub mod Writing

@@ -24,7 +24,7 @@ pub(crate) fn refusal(no: u8) -> Text<LINE_ROOM>
 // Point count and best sum of the desk's sheet.
 #[tactic(auto, using(crate::proofs::Writing::added_more), unfolding(crate::specs::DeskLines::loaded_line))]
 pub(crate) fn loaded(desk: Desk) -> Text<LINE_ROOM>
-    ensures { Added line_room (loaded_line desk) [] result }
+    ensures { Added 19 (loaded_line desk) [] result }
 {
     let sheet = desk.held.sheet;
     let mut text = Text::new();

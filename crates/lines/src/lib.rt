@@ -2,13 +2,15 @@
 // is written, and the answer is 0. No text is empty, so 0 says so, as `Prints` has it, and C gets `listing`'s answer as it is.
 #![tactic(auto)]
 
+ghost use Rattle.std.specs.Prelude.{◌≡◌, ℕ, Result};
+ghost use Rattle.desk.specs.declared.Marked.{Marked as MarkedList};
 ghost use Rattle.lines.specs.Rooms.{line_room};
+ghost use Rattle.lines.specs.Numbered.{Numbered};
 ghost use Rattle.lines.specs.DeskLines.{refusal_line, load_line, mark_line};
 ghost use Rattle.lines.specs.Writing.{Prints, PrintsListing};
 
 use desk::{Desk, Marked};
 use desk_lines::{loaded, marked, refusal};
-use format::Refusal;
 use plate_lines::add_listing;
 use text::Text;
 
@@ -41,22 +43,24 @@ pub fn refusal_line(no: u8, buffer: &mut [u8]) -> usize
     refusal(no).print(buffer)
 }
 
-// The line of a load with this answer, which gave the desk.
-pub fn load_line(answer: Result<(), Refusal>, desk: Desk, buffer: &mut [u8]) -> usize
-    ensures { Prints line_room (load_line answer desk) buffer.old result buffer.new }
+// The line of a load with this answer, which gave the desk. A refusal is a `Refusal`, or its number: any byte, as with refusal_line.
+pub fn load_line<N: Into<u8>>(answer: Result<(), N>, desk: Desk, buffer: &mut [u8]) -> usize
+    ensures { (by_number : Result (Unit {0}) ℕ) × Numbered N.converts answer by_number
+        × Prints line_room (load_line by_number desk) buffer.old result buffer.new }
 {
     match answer {
         Ok(()) => loaded(desk).print(buffer),
-        Err(no) => refusal_line(u8::from(no), buffer),
+        Err(refusal) => refusal_line(refusal.into(), buffer),
     }
 }
 
-// The line of a mark with this answer.
-pub fn mark_line(answer: Result<Marked, Refusal>, buffer: &mut [u8]) -> usize
-    ensures { Prints line_room (mark_line answer) buffer.old result buffer.new }
+// The line of a mark with this answer; of its refusal as with load_line.
+pub fn mark_line<N: Into<u8>>(answer: Result<Marked, N>, buffer: &mut [u8]) -> usize
+    ensures { (by_number : Result MarkedList ℕ) × Numbered N.converts answer by_number
+        × Prints line_room (mark_line by_number) buffer.old result buffer.new }
 {
     match answer {
         Ok(Marked { number, verdict }) => marked(number, verdict).print(buffer),
-        Err(no) => refusal_line(u8::from(no), buffer),
+        Err(no) => refusal_line(no.into(), buffer),
     }
 }

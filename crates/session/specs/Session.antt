@@ -5,6 +5,7 @@ use Rattle.desk.specs.Desk.{LoadAnswer, load_of, mark_of}
 use Rattle.desk.specs.Calls.{Calls, desk_after}
 use Rattle.desk.specs.declared.After.{After}
 use Rattle.desk.specs.declared.Desk.{Desk}
+use Rattle.lines.specs.Numbered.{numbered}
 use Rattle.lines.specs.DeskLines.{load_line, mark_line}
 use Rattle.lines.specs.Rooms.{line_room}
 use Rattle.lines.specs.Writing.{Prints}
@@ -18,7 +19,7 @@ pub record DeskCall : Type 0 where
 
 -- What a load with this result comes to.
 abbrev pub loaded_call : After LoadAnswer → DeskCall
-loaded_call r = record { desk = r.desk; text = load_line r.answer r.desk }
+loaded_call r = record { desk = r.desk; text = load_line (numbered r.answer) r.desk }
 
 -- A load with a workspace of zeros, with the rank list r or none.
 abbrev pub loaded : Desk → List ℕ → Option (List ℕ) → After LoadAnswer
@@ -30,7 +31,7 @@ load_call d s r = loaded_call (loaded d s r)
 
 -- A list is marked.
 abbrev pub mark_call : Desk → List ℕ → DeskCall
-mark_call d l = record { desk = (mark_of d l).desk; text = mark_line (mark_of d l).answer }
+mark_call d l = record { desk = (mark_of d l).desk; text = mark_line (numbered (mark_of d l).answer) }
 
 -- A call on the desk d, by its first and second part: a sheet is loaded, or a sheet with a rank list; every other kind marks a list.
 abbrev pub desk_call : Desk → CallKind → List ℕ → List ℕ → DeskCall

@@ -1,5 +1,6 @@
+use Rattle.lines.proofs.Numbered.{mark-refusal}
 use Rattle.session.proofs.Session.{mark-runs}
 use Rattle.session.proofs.run_mark.Goals as goal
 
 pub returns : goal.returns
-returns c = mark-runs _ _ _ _ _ _ c.mark-after.ensures c.mark_line.ensures
+returns c = mark-runs _ _ _ _ _ _ c.mark-after.ensures (mark-refusal _ _ _ _ c.mark_line.ensures)

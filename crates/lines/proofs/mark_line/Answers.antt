@@ -1,0 +1,10 @@
+-- `lines::mark_line` meets its contract. Assumes nothing.
+use Rattle.std.specs.Prelude.{Ok, Err}
+use Rattle.std.proofs.Common.{rules}
+use Rattle.lines.proofs.mark_line.Goals as goal
+
+pub returns-in-Ok : goal.returns-in-Ok
+returns-in-Ok g c = (Ok c.in-Ok.field-0, search rules, search rules)
+
+pub returns-in-Err : goal.returns-in-Err
+returns-in-Err g c = (Err c.into.result, search rules, search rules)
