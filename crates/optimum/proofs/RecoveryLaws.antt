@@ -12,12 +12,12 @@ use Rattle.recurrence.proofs.RecurrenceTests.{dec-between, recovered-skip, recov
 use Rattle.recurrence.proofs.Recovered.{takes_out, value-down, recovered-down}
 use Rattle.orders.specs.Arrays.{heights_of}
 use Rattle.orders.specs.Layout.{field_cells}
+use Rattle.optimum.specs.Packed.{Packed}
 use Rattle.optimum.specs.Slabs.{open_below, slab_has, slab_value, slab_takes, slab_recovered, lower_part, upper_part}
 use Rattle.optimum.specs.Split.{flagged}
 use Rattle.optimum.specs.Table.{Memo, Ready, Opened, CutAt, Recoverable, inside_flag, taken}
 use Rattle.optimum.specs.Table.{flagged_taken, Taking, Flagged, FlaggedDown, Blank, Solved}
 use Rattle.optimum.proofs.Steps.{opened, ready-low, ready-high, open-below-low, open-below-high, open-below-n, fitting-zero}
-use Rattle.optimum.specs.declared.points.PackedPoints.{PackedPoints}
 use Rattle.optimum.specs.declared.table.Slab.{Slab}
 
 -- THE CHOICE AND ITS FLAGS
@@ -99,9 +99,9 @@ module _ (H : Heights) (k t i r : ℕ) (m : List Bool) (e : r ≡ H.rank i) wher
   unfolding flagged_taken taken
   flagged-taken l u = sym (rw (le-leb k (H.rank i) (omega arith), lt-ltb (H.rank i) t (omega arith)))
 
-module _ {s : PackedPoints} {x : Slab} {k : ℕ} (r : Ready s x) where
+module _ {s : List ℕ} {x : Slab} {k : ℕ} (r : Ready s x) where
   -- The loop begins above the lower end,
-  pub taking-first : (m : List Bool) → Taking (heights_of s.cells) x k (x.lower + 1) m m
+  pub taking-first : (m : List Bool) → Taking (heights_of s) x k (x.lower + 1) m m
   taking-first m = record {
     low = omega arith;
     high = omega (arith, r.proper.order);
@@ -109,17 +109,17 @@ module _ {s : PackedPoints} {x : Slab} {k : ℕ} (r : Ready s x) where
     set = λ j. rw (dec-false (dec-between x.lower j (x.lower + 1)) (λ b. omega (arith, b.low, b.high))) refl;
   }
 
-  module _ {i : ℕ} {m m₁ : List Bool} (y : Taking (heights_of s.cells) x k i m m₁) where
+  module _ {i : ℕ} {m m₁ : List Bool} (packed : Packed s) (y : Taking (heights_of s) x k i m m₁) where
     -- takes the next point,
-    pub taking-next : (t : ℕ) (m₂ : List Bool) → i < x.upper → length m ≡ field_cells → t ≡ open_below (heights_of s.cells) x
-        → m₂ ≡ flagged_taken (heights_of s.cells) k t i m₁ → Taking (heights_of s.cells) x k (i + 1) m m₂
+    pub taking-next : (t : ℕ) (m₂ : List Bool) → i < x.upper → length m ≡ field_cells → t ≡ open_below (heights_of s) x
+        → m₂ ≡ flagged_taken (heights_of s) k t i m₁ → Taking (heights_of s) x k (i + 1) m m₂
     unfolding flagged_taken
     taking-next t m₂ l n f e =
-        let long : i < length m₁ = omega (arith, y.same, r.proper.upper, s.packed.few) in
+        let long : i < length m₁ = omega (arith, y.same, r.proper.upper, packed.few) in
         let here : between x.lower i (i + 1) ≡ true =
         (dec-between x.lower i (i + 1)).of (record { low = y.low; high = omega arith }) in
         let there : between x.lower i i ≡ false = dec-false (dec-between x.lower i i) (λ b. omega (arith, b.high)) in
-        decide (taken (heights_of s.cells) k (open_below (heights_of s.cells) x) i)
+        decide (taken (heights_of s) k (open_below (heights_of s) x) i)
         (λ z.
         let e' : m₂ ≡ set m₁ i inside_flag = rw (f, z) at e in
         record {
@@ -148,10 +148,10 @@ module _ {s : PackedPoints} {x : Slab} {k : ℕ} (r : Ready s x) where
             (λ b. record { low = b.low; high = omega (arith, b.high) }) (dec-between x.lower j i))
 
     -- and ends at the upper end.
-    pub taking-last : x.upper ≤ i → CutAt (heights_of s.cells) x k → FlaggedDown (heights_of s.cells) x k m m₁
+    pub taking-last : x.upper ≤ i → CutAt (heights_of s) x k → FlaggedDown (heights_of s) x k m m₁
     unfolding taken
     taking-last l c =
-        let H = heights_of s.cells in
+        let H = heights_of s in
         let t = open_below H x in
         let e : i ≡ x.upper = omega (arith, y.high) in
         record {
@@ -165,15 +165,15 @@ module _ {s : PackedPoints} {x : Slab} {k : ℕ} (r : Ready s x) where
                 ∙ (ap (cond (slab_recovered H k x j) inside_flag) (y.set j)
                 ∙ (rw e (joined (slab_recovered H k x j) (slab_has x j && (nat_le k (H.rank j) && nat_lt (H.rank j) t)) (flagged m j))
                 ∙ ap (λ (g : Bool). cond g inside_flag (flagged m j))
-                (sym (recovered-down s.packed.sorted k x.lower x.upper x.reaching
-                (record { low = omega arith; high = u }) t c.below (open-below-n r) c.above)))));
+                (sym (recovered-down packed.sorted k x.lower x.upper x.reaching
+                (record { low = omega arith; high = u }) t c.below (open-below-n r packed) c.above)))));
           };
         }
       where
-        nothing : (t : ℕ) → slab_recovered (heights_of s.cells) t x 0 ≡ false
+        nothing : (t : ℕ) → slab_recovered (heights_of s) t x 0 ≡ false
         nothing t =
-            false_of (slab_recovered (heights_of s.cells) t x 0)
-            (λ f. let g = recovered-range (heights_of s.cells) t x.lower x.upper x.reaching 0 f in omega (arith, g.low))
+            false_of (slab_recovered (heights_of s) t x 0)
+            (λ f. let g = recovered-range (heights_of s) t x.lower x.upper x.reaching 0 f in omega (arith, g.low))
 
         joined : (u v : Bool) (d : Bool) → cond u inside_flag (cond v inside_flag d) ≡ cond (u || v) inside_flag d
         joined true v d = refl
@@ -181,84 +181,87 @@ module _ {s : PackedPoints} {x : Slab} {k : ℕ} (r : Ready s x) where
 
 -- A CUT
 
-module _ {s : PackedPoints} {table : List ℕ} {x : Slab} {k p : ℕ} (a : Recoverable s table x) (c : CutAt (heights_of s.cells) x k)
-    (ne : k ≡ 0 → ⊥) (e : p ≡ (heights_of s.cells).at_rank (k - 1)) where
+module _ {s table : List ℕ} {x : Slab} {k p : ℕ} (a : Recoverable s table x) (c : CutAt (heights_of s) x k)
+    (ne : k ≡ 0 → ⊥) (e : p ≡ (heights_of s).at_rank (k - 1)) where
   prev : k ≡ suc (k - 1)
   prev = omega arith
 
   -- The point is open in the slab.
-  pub cut_opened : Opened s x p × ((heights_of s.cells).rank p ≡ k - 1)
-  cut_opened = opened a.asked.ready (k - 1) p (omega (arith, c.below)) e (rw e (c.within (k - 1) prev))
+  pub cut_opened : Packed s → Opened s x p × ((heights_of s).rank p ≡ k - 1)
+  cut_opened packed = opened a.asked.ready packed (k - 1) p (omega (arith, c.below)) e (rw e (c.within (k - 1) prev))
 
   -- Both parts have a choice, because the slab has.
-  choices : CanOut (heights_of s.cells) (k - 1) x.lower x.upper x.reaching
+  choices : CanOut (heights_of s) (k - 1) x.lower x.upper x.reaching
   choices =
-      (takes_out (rw prev at (value-down (open_below (heights_of s.cells) x) c.below c.above a.some))
+      (takes_out (rw prev at (value-down (open_below (heights_of s) x) c.below c.above a.some))
       (c.within (k - 1) prev) (c.out (k - 1) prev)).0
 
-  pub cut_low : Recoverable s table (lower_part x p)
-  cut_low = record {
-    asked = record { ready = ready-low cut_opened.0; memo = a.asked.memo };
-    some = rw (open-below-low cut_opened.0, cut_opened.1, e) choices.low;
-  }
+  pub cut_low : Packed s → Recoverable s table (lower_part x p)
+  cut_low packed =
+      let o = cut_opened packed in
+      record {
+        asked = record { ready = ready-low o.0; memo = a.asked.memo };
+        some = rw (open-below-low o.0, o.1, e) choices.low;
+      }
 
-  pub cut_high : {table' : List ℕ} → Memo (heights_of s.cells) table' → (over : ℕ) → over ≡ reach (heights_of s.cells) x.lower p x.reaching
+  pub cut_high : Packed s → {table' : List ℕ} → Memo (heights_of s) table' → (over : ℕ) → over ≡ reach (heights_of s) x.lower p x.reaching
       → Recoverable s table' (upper_part x p over)
-  cut_high m over f = record {
-    asked = record { ready = ready-high cut_opened.0 over f; memo = m };
-    some = rw (open-below-high cut_opened.0 over, cut_opened.1, f, e) choices.high;
-  }
+  cut_high packed m over f =
+      let o = cut_opened packed in
+      record {
+        asked = record { ready = ready-high o.0 over f; memo = m };
+        some = rw (open-below-high o.0 over, o.1, f, e) choices.high;
+      }
 
   -- The flags of both parts are set: so are the slab's, below its cut.
-  pub cut-flagged : (m m₁ m₂ : List Bool) (over : ℕ) → over ≡ reach (heights_of s.cells) x.lower p x.reaching
-      → Flagged (heights_of s.cells) (open_below (heights_of s.cells) (lower_part x p))
-      (lower_part x p) m m₁
-      → Flagged (heights_of s.cells) (open_below (heights_of s.cells) (upper_part x p over))
-      (upper_part x p over) m₁ m₂
-      → Flagged (heights_of s.cells) k x m m₂
-  cut-flagged m m₁ m₂ over f u v =
-      let H = heights_of s.cells in
-      let r : H.rank p ≡ k - 1 = cut_opened.1 in
+  pub cut-flagged : Packed s → (m m₁ m₂ : List Bool) (over : ℕ) → over ≡ reach (heights_of s) x.lower p x.reaching
+      → Flagged (heights_of s) (open_below (heights_of s) (lower_part x p)) (lower_part x p) m m₁
+      → Flagged (heights_of s) (open_below (heights_of s) (upper_part x p over)) (upper_part x p over) m₁ m₂
+      → Flagged (heights_of s) k x m m₂
+  cut-flagged packed m m₁ m₂ over f u v =
+      let H = heights_of s in
+      let o = cut_opened packed in
+      let r : H.rank p ≡ k - 1 = o.1 in
       let u' : Flagged H (k - 1) (lower_part x (H.at_rank (k - 1))) m m₁ =
-      rw (open-below-low cut_opened.0, r, e) at u in
-      let v' : Flagged H (k - 1)
-      (upper_part x (H.at_rank (k - 1)) (reach H x.lower (H.at_rank (k - 1)) x.reaching)) m₁ m₂ =
-      rw (open-below-high cut_opened.0 over, r, f, e) at v in
+      rw (open-below-low o.0, r, e) at u in
+      let v' : Flagged H (k - 1) (upper_part x (H.at_rank (k - 1)) (reach H x.lower (H.at_rank (k - 1)) x.reaching)) m₁ m₂ =
+      rw (open-below-high o.0 over, r, f, e) at v in
       rw (← prev) at (flagged-out H (k - 1) x (c.within (k - 1) prev) m m₁ m₂ (c.out (k - 1) prev) u' v')
 
 -- ALL POINTS
 
-module _ (s : PackedPoints) (n : ℕ) (e : n ≡ (heights_of s.cells).n) where
+module _ (s : List ℕ) (n : ℕ) (e : n ≡ (heights_of s).n) where
   abbrev all_points : Slab
   all_points = record { lower = 0; upper = n + 1; reaching = 0 }
 
-  end : n + 1 ≡ suc (heights_of s.cells).n
+  end : n + 1 ≡ suc (heights_of s).n
   end = omega arith
 
-  all-open-below : open_below (heights_of s.cells) all_points ≡ (heights_of s.cells).n
-  unfolding open_below
-  all-open-below = rw end (omega (arith, s.packed.lower-rank, s.packed.upper-rank))
-
   pub all-ready : Ready s all_points
-  all-ready = record { proper = record { order = omega arith; upper = omega arith; fits = fitting-zero (heights_of s.cells) 0 } }
+  all-ready = record { proper = record { order = omega arith; upper = omega arith; fits = fitting-zero (heights_of s) 0 } }
 
-  all-value : (v : ℕ) → v ≡ slab_value (heights_of s.cells) all_points → v ≡ value (heights_of s.cells) (heights_of s.cells).n 0 (suc (heights_of s.cells).n) 0
-  all-value v f = f ∙ rw (all-open-below, end) refl
+  module _ (packed : Packed s) where
+    all-open-below : open_below (heights_of s) all_points ≡ (heights_of s).n
+    unfolding open_below
+    all-open-below = rw end (omega (arith, packed.lower-rank, packed.upper-rank))
 
-  -- There is no choice,
-  pub all_none : (m : List Bool) (v : ℕ) → v ≡ slab_value (heights_of s.cells) all_points → v ≡ 0 → Solved (heights_of s.cells) m 0
-  all_none m v f g = record { best = sym g ∙ all-value v f; flagged = λ l. absurd (omega arith) }
+    all-value : (v : ℕ) → v ≡ slab_value (heights_of s) all_points → v ≡ value (heights_of s) (heights_of s).n 0 (suc (heights_of s).n) 0
+    all-value v f = f ∙ rw (all-open-below, end) refl
 
-  -- or the flags are those of the best one.
-  pub all-solved : (m m' : List Bool) (v : ℕ) → Blank m → Flagged (heights_of s.cells) (open_below (heights_of s.cells) all_points) all_points m m'
-      → v ≡ slab_value (heights_of s.cells) all_points → Solved (heights_of s.cells) m' v
-  all-solved m m' v z y f =
-      let y' : Flagged (heights_of s.cells) (heights_of s.cells).n (record { lower = 0; upper = suc (heights_of s.cells).n; reaching = 0 }) m m' =
-      rw (all-open-below, end) at y in
-      record {
-        best = all-value v f;
-        flagged = λ _ j p.
-            y'.set j p.high
-            ∙ ap (cond (recovered (heights_of s.cells) (heights_of s.cells).n 0 (suc (heights_of s.cells).n) 0 j) inside_flag)
-            (z.zero j (omega (arith, p.high, s.packed.few)));
-      }
+    -- There is no choice,
+    pub all_none : (m : List Bool) (v : ℕ) → v ≡ slab_value (heights_of s) all_points → v ≡ 0 → Solved (heights_of s) m 0
+    all_none m v f g = record { best = sym g ∙ all-value v f; flagged = λ l. absurd (omega arith) }
+
+    -- or the flags are those of the best one.
+    pub all-solved : (m m' : List Bool) (v : ℕ) → Blank m → Flagged (heights_of s) (open_below (heights_of s) all_points) all_points m m'
+        → v ≡ slab_value (heights_of s) all_points → Solved (heights_of s) m' v
+    all-solved m m' v z y f =
+        let y' : Flagged (heights_of s) (heights_of s).n (record { lower = 0; upper = suc (heights_of s).n; reaching = 0 }) m m' =
+        rw (all-open-below, end) at y in
+        record {
+          best = all-value v f;
+          flagged = λ _ j p.
+              y'.set j p.high
+              ∙ ap (cond (recovered (heights_of s) (heights_of s).n 0 (suc (heights_of s).n) 0 j) inside_flag)
+              (z.zero j (omega (arith, p.high, packed.few)));
+        }

@@ -13,10 +13,10 @@ use Rattle.recurrence.specs.Safe.{Safe, unreached}
 use Rattle.recurrence.proofs.Safe.{dec-unreached, safe-outside, safe-inside}
 use Rattle.orders.specs.Arrays.{heights_of}
 use Rattle.orders.specs.Layout.{weight_bound}
+use Rattle.optimum.specs.Packed.{Packed}
 use Rattle.optimum.specs.Slabs.{open_below, slab_has, slab_below, slab_value, slab_inside, slab_out, slab_in}
 use Rattle.optimum.specs.Table.{CutAt, Settled, better_of, Kept, Opened, Running, Stepped}
 use Rattle.optimum.proofs.Steps.{reaches-fitting, at-rank, open-between, open-weight}
-use Rattle.optimum.specs.declared.points.PackedPoints.{PackedPoints}
 use Rattle.optimum.specs.declared.table.Slab.{Slab}
 use Rattle.optimum.specs.declared.table.Found.{Found}
 use Rattle.optimum.specs.declared.values.Run.{Run}
@@ -192,59 +192,62 @@ running-safe {H} L {x} {t} {r} is k w h heavy small =
     }
 
 -- ONE STEP, as the program takes it: the point isn't between,
-pub step_skip : {s : PackedPoints} {x : Slab} {t : ℕ} {r : Run} {table : List ℕ} (p : ℕ) → p ≡ (heights_of s.cells).at_rank t
-    → slab_has x p ≡ false → Running (heights_of s.cells) x (suc t) r → Kept s table table → Stepped s x t (Continue r) table table
+pub step_skip : {s : List ℕ} {x : Slab} {t : ℕ} {r : Run} {table : List ℕ} (p : ℕ) → p ≡ (heights_of s).at_rank t
+    → slab_has x p ≡ false → Running (heights_of s) x (suc t) r → Kept s table table → Stepped s x t (Continue r) table table
 step_skip p e b k m = record { step = running-skip (rw e at b) k; kept = m }
 
-module _ {s : PackedPoints} {x : Slab} {t p : ℕ} {r : Run} {table table' : List ℕ}
-    (o : Opened s x p × ((heights_of s.cells).rank p ≡ t)) (k : Running (heights_of s.cells) x (suc t) r) (m : Kept s table table')
-    (g : Bool) (h : g ≡ slab_inside (heights_of s.cells) ((heights_of s.cells).rank p) x) where
-  here : slab_has x ((heights_of s.cells).at_rank t) ≡ true
-  here = rw o.1 at (open-between o.0)
+module _ {s : List ℕ} {x : Slab} {t p : ℕ} {r : Run} {table table' : List ℕ}
+    (o : Opened s x p × ((heights_of s).rank p ≡ t)) (k : Running (heights_of s) x (suc t) r) (m : Kept s table table')
+    (g : Bool) (h : g ≡ slab_inside (heights_of s) ((heights_of s).rank p) x) where
+  here : Packed s → slab_has x ((heights_of s).at_rank t) ≡ true
+  here packed = rw o.1 at (open-between o.0 packed)
 
-  point : (heights_of s.cells).at_rank t ≡ p
-  point = rw o.1 at (at-rank o.0)
+  point : Packed s → (heights_of s).at_rank t ≡ p
+  point packed = rw o.1 at (at-rank o.0 packed)
 
-  inside-here : g ≡ slab_inside (heights_of s.cells) t x
+  inside-here : g ≡ slab_inside (heights_of s) t x
   inside-here = rw o.1 at h
 
-  below-lower : t < (heights_of s.cells).rank x.lower
+  below-lower : t < (heights_of s).rank x.lower
   unfolding open_below
   below-lower = omega (arith, o.1, o.0.below)
 
   -- is safe,
-  pub step-safe : (safe : Bool) → safe ≡ (g && unreached (heights_of s.cells) p x.upper) → safe ≡ true → (w : ℕ) → w ≡ (heights_of s.cells).weight p
+  pub step-safe : Packed s → (safe : Bool) → safe ≡ (g && unreached (heights_of s) p x.upper) → safe ≡ true
+      → (w : ℕ) → w ≡ (heights_of s).weight p
       → Stepped s x t (Continue (record { best = r.best; acc = r.acc + w })) table table'
-  step-safe safe d e w v =
-      let H = heights_of s.cells in
-      let L = s.packed.sorted in
+  step-safe packed safe d e w v =
+      let H = heights_of s in
+      let L = packed.sorted in
       let proper = o.0.ready.proper in
       let none = (dec-unreached H p x.upper proper.upper).is (and_right g _ (sym d ∙ e)) in
       let is : Safe H t x.lower x.upper x.reaching = record {
         ranked = omega (arith, o.1, L.rank_below p o.0.point);
-        within = (dec-between x.lower (H.at_rank t) x.upper).is here;
+        within = (dec-between x.lower (H.at_rank t) x.upper).is (here packed);
         upper = proper.upper;
         over = reaches-fitting H x.lower x.reaching proper.fits;
         lower-rank = λ l. below-lower;
         may-be-inside = sym inside-here ∙ and_left g _ (sym d ∙ e);
-        unreached = rw point none;
+        unreached = rw (point packed) none;
       } in
       record {
-        step = running-safe L is k w (v ∙ rw point) (omega (arith, v, s.packed.heavy p o.0.point)) (open-weight o.0 w v);
+        step = running-safe L is k w (v ∙ rw (point packed)) (omega (arith, v, packed.heavy p o.0.point)) (open-weight o.0 packed w v);
         kept = m;
       }
 
-  module _ (out : Found) (f : out.value ≡ join r.acc (slab_out (heights_of s.cells) ((heights_of s.cells).rank p) x))
+  module _ (packed : Packed s) (out : Found) (f : out.value ≡ join r.acc (slab_out (heights_of s) ((heights_of s).rank p) x))
       (c : out.cut ≡ t + 1) (best : Found) (b : best ≡ better_of r.best out) where
     -- may not be inside,
     pub step-stop : g ≡ false → Stepped s x t (Break best) table table'
-    step-stop z = record { step = rw b (running-stop here k out (rw o.1 at f) (c ∙ add-one t) (sym inside-here ∙ z)); kept = m }
+    step-stop z = record { step = rw b (running-stop (here packed) k out (rw o.1 at f) (c ∙ add-one t) (sym inside-here ∙ z)); kept = m }
 
     -- or may.
-    pub step-on : (w : ℕ) → g ≡ true → w ≡ (heights_of s.cells).weight p
+    pub step-on : (w : ℕ) → g ≡ true → w ≡ (heights_of s).weight p
         → Stepped s x t (Continue (record { best = best; acc = r.acc + w })) table table'
     step-on w z v = record {
-      step = rw b (running-on here k out (rw o.1 at f) (c ∙ add-one t) w (sym inside-here ∙ z) (v ∙ rw point) (open-weight o.0 w v));
+      step =
+          rw b (running-on (here packed) k out (rw o.1 at f) (c ∙ add-one t) w (sym inside-here ∙ z)
+          (v ∙ rw (point packed)) (open-weight o.0 packed w v));
       kept = m;
     }
 

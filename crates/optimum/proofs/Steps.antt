@@ -18,7 +18,6 @@ use Rattle.optimum.specs.Packed.{Packed}
 use Rattle.optimum.specs.Conflicts.{Candidate}
 use Rattle.optimum.specs.Slabs.{open_below, slab_has, slab_below, slab_value, slab_out, slab_place, lower_part, upper_part, fitting}
 use Rattle.optimum.specs.Table.{Ready, Opened}
-use Rattle.optimum.specs.declared.points.PackedPoints.{PackedPoints}
 use Rattle.optimum.specs.declared.table.Slab.{Slab}
 
 -- THE TEST OF A POINT BETWEEN
@@ -77,29 +76,29 @@ weight-small s i k p = omega (arith, weight-total (heights_of s) i (heights_of s
 
 -- A SLAB
 
-module _ {s : PackedPoints} {x : Slab} (r : Ready s x) where
+module _ {s : List ℕ} {x : Slab} (r : Ready s x) (packed : Packed s) where
   -- Its ends have cells in the array.
   pub ends-small : (x.lower < field_cells) × (x.upper < field_cells)
-  ends-small = (omega (arith, r.proper.order, r.proper.upper, s.packed.few), omega (arith, r.proper.upper, s.packed.few))
+  ends-small = (omega (arith, r.proper.order, r.proper.upper, packed.few), omega (arith, r.proper.upper, packed.few))
 
   -- Its points are open below n at most.
-  pub open-below-n : open_below (heights_of s.cells) x ≤ (heights_of s.cells).n
+  pub open-below-n : open_below (heights_of s) x ≤ (heights_of s).n
   unfolding open_below
   open-below-n =
-      less (heights_of s.cells).n x.upper
+      less (heights_of s).n x.upper
       (λ l.
-      let z : x.upper ≡ suc (heights_of s.cells).n = omega (arith, r.proper.upper) in
-      omega (arith, ap (heights_of s.cells).rank z, s.packed.upper-rank))
-      (λ l. omega (arith, s.packed.sorted.rank_below x.upper (record { low = omega (arith, r.proper.order); high = l })))
+      let z : x.upper ≡ suc (heights_of s).n = omega (arith, r.proper.upper) in
+      omega (arith, ap (heights_of s).rank z, packed.upper-rank))
+      (λ l. omega (arith, packed.sorted.rank_below x.upper (record { low = omega (arith, r.proper.order); high = l })))
 
-  pub open-below-few : open_below (heights_of s.cells) x ≤ 32
-  open-below-few = omega (arith, open-below-n, s.packed.few)
+  pub open-below-few : open_below (heights_of s) x ≤ 32
+  open-below-few = omega (arith, open-below-n, packed.few)
 
   -- Its place is one of the table's,
   pub place-room : slab_place x < entries
   place-room =
-      place-below x.lower x.upper x.reaching (fitting-le (heights_of s.cells) x.lower x.reaching r.proper.fits)
-      r.proper.order (omega (arith, r.proper.upper, s.packed.few))
+      place-below x.lower x.upper x.reaching (fitting-le (heights_of s) x.lower x.reaching r.proper.fits)
+      r.proper.order (omega (arith, r.proper.upper, packed.few))
 
   -- and the sum of two numbers from the array, and q.
   pub place-sum : (y z : ℕ) → y ≡ tet (x.upper + 1) → z ≡ tri (x.lower + 1)
@@ -110,46 +109,46 @@ module _ {s : PackedPoints} {x : Slab} (r : Ready s x) where
       let f' : z ≡ tri (suc x.lower) = f ∙ ap tri (add-one x.lower) in
       (rw (e', f'), omega (arith, place-room))
 
-  pub value-small : (t : ℕ) → t ≤ (heights_of s.cells).n → slab_below (heights_of s.cells) t x ≤ weight_bound
+  pub value-small : (t : ℕ) → t ≤ (heights_of s).n → slab_below (heights_of s) t x ≤ weight_bound
   value-small t l =
-      omega (arith, value-bound s.packed.sorted t x.lower x.upper x.reaching l r.proper.upper, s.packed.light)
+      omega (arith, value-bound packed.sorted t x.lower x.upper x.reaching l r.proper.upper, packed.light)
 
 -- AN OPEN POINT
 
 -- The point of a rank below which the points are open, if it is between.
-pub opened : {s : PackedPoints} {x : Slab} → Ready s x → (t p : ℕ) → t < open_below (heights_of s.cells) x → p ≡ (heights_of s.cells).at_rank t
+pub opened : {s : List ℕ} {x : Slab} → Ready s x → Packed s → (t p : ℕ) → t < open_below (heights_of s) x → p ≡ (heights_of s).at_rank t
     → slab_has x p ≡ true
-    → Opened s x p × ((heights_of s.cells).rank p ≡ t)
-opened {s} {x} r t p l e f =
-    let u : t < (heights_of s.cells).n = omega (arith, open-below-n r) in
-    let z : (heights_of s.cells).rank p ≡ t = rw e (s.packed.sorted.rank-at_rank t u) in
+    → Opened s x p × ((heights_of s).rank p ≡ t)
+opened {s} {x} r packed t p l e f =
+    let u : t < (heights_of s).n = omega (arith, open-below-n r packed) in
+    let z : (heights_of s).rank p ≡ t = rw e (packed.sorted.rank-at_rank t u) in
     let k : Between x.lower p x.upper = (dec-between x.lower p x.upper).is f in
-    (record { ready = r; point = rw e (s.packed.sorted.at_rank-point t u); low = k.low; high = k.high; below = omega (arith, z) }, z)
+    (record { ready = r; point = rw e (packed.sorted.at_rank-point t u); low = k.low; high = k.high; below = omega (arith, z) }, z)
 
-module _ {s : PackedPoints} {x : Slab} {p : ℕ} (o : Opened s x p) where
-  pub open-below : (heights_of s.cells).rank p ≤ (heights_of s.cells).n
-  open-below = omega (arith, o.below, open-below-n o.ready)
+module _ {s : List ℕ} {x : Slab} {p : ℕ} (o : Opened s x p) where
+  pub open-below : Packed s → (heights_of s).rank p ≤ (heights_of s).n
+  open-below packed = omega (arith, o.below, open-below-n o.ready packed)
 
-  pub open-small : p < field_cells
-  open-small = omega (arith, o.point.high, s.packed.few)
+  pub open-small : Packed s → p < field_cells
+  open-small packed = omega (arith, o.point.high, packed.few)
 
-  pub at-rank : (heights_of s.cells).at_rank ((heights_of s.cells).rank p) ≡ p
-  at-rank = s.packed.sorted.at_rank-rank p o.point
+  pub at-rank : Packed s → (heights_of s).at_rank ((heights_of s).rank p) ≡ p
+  at-rank packed = packed.sorted.at_rank-rank p o.point
 
-  pub open-between : slab_has x ((heights_of s.cells).at_rank ((heights_of s.cells).rank p)) ≡ true
-  open-between = rw at-rank ((dec-between x.lower p x.upper).of (record { low = o.low; high = o.high }))
+  pub open-between : Packed s → slab_has x ((heights_of s).at_rank ((heights_of s).rank p)) ≡ true
+  open-between packed = rw (at-rank packed) ((dec-between x.lower p x.upper).of (record { low = o.low; high = o.high }))
 
-  pub open-candidate : Candidate (heights_of s.cells) x.lower x.upper x.reaching p
+  pub open-candidate : Candidate (heights_of s) x.lower x.upper x.reaching p
   open-candidate = record {
     point = o.point;
     low = o.low;
     high = o.high;
     upper = o.ready.proper.upper;
-    fits = fitting-le (heights_of s.cells) x.lower x.reaching o.ready.proper.fits;
+    fits = fitting-le (heights_of s) x.lower x.reaching o.ready.proper.fits;
   }
 
-  pub open-weight : (w : ℕ) → w ≡ (heights_of s.cells).weight p → w < weight_bound
-  open-weight w e = omega (arith, weight-small s.cells p s.packed o.point)
+  pub open-weight : Packed s → (w : ℕ) → w ≡ (heights_of s).weight p → w < weight_bound
+  open-weight packed w e = omega (arith, weight-small s p packed o.point)
 
   -- THE PARTS OF A CUT AT IT are slabs.
   pub ready-low : Ready s (lower_part x p)
@@ -157,50 +156,53 @@ module _ {s : PackedPoints} {x : Slab} {p : ℕ} (o : Opened s x p) where
     proper = record { order = o.low; upper = omega (arith, o.high, o.ready.proper.upper); fits = o.ready.proper.fits };
   }
 
-  pub ready-high : (q : ℕ) → q ≡ reach (heights_of s.cells) x.lower p x.reaching → Ready s (upper_part x p q)
+  pub ready-high : (q : ℕ) → q ≡ reach (heights_of s) x.lower p x.reaching → Ready s (upper_part x p q)
   ready-high q z = record {
     proper = record {
       order = o.high;
       upper = o.ready.proper.upper;
-      fits = rw z (fitting-reach (heights_of s.cells) x.lower p x.reaching);
+      fits = rw z (fitting-reach (heights_of s) x.lower p x.reaching);
     };
   }
 
   -- Their limits are the point's rank.
-  pub open-below-low : open_below (heights_of s.cells) (lower_part x p) ≡ (heights_of s.cells).rank p
+  pub open-below-low : open_below (heights_of s) (lower_part x p) ≡ (heights_of s).rank p
   unfolding open_below
   open-below-low = omega (arith, o.below)
 
-  pub open-below-high : (q : ℕ) → open_below (heights_of s.cells) (upper_part x p q) ≡ (heights_of s.cells).rank p
+  pub open-below-high : (q : ℕ) → open_below (heights_of s) (upper_part x p q) ≡ (heights_of s).rank p
   unfolding open_below
   open-below-high q = omega (arith, o.below)
 
   -- Their values,
-  pub low_value : (v : ℕ) → v ≡ slab_value (heights_of s.cells) (lower_part x p) → v ≡ slab_below (heights_of s.cells) ((heights_of s.cells).rank p) (lower_part x p)
-  low_value v f = f ∙ ap (λ (u : ℕ). slab_below (heights_of s.cells) u (lower_part x p)) open-below-low
+  pub low_value : (v : ℕ) → v ≡ slab_value (heights_of s) (lower_part x p)
+      → v ≡ slab_below (heights_of s) ((heights_of s).rank p) (lower_part x p)
+  low_value v f = f ∙ ap (λ (u : ℕ). slab_below (heights_of s) u (lower_part x p)) open-below-low
 
-  pub high_value : (v q : ℕ) → v ≡ slab_value (heights_of s.cells) (upper_part x p q) → q ≡ reach (heights_of s.cells) x.lower p x.reaching
-      → v ≡ slab_below (heights_of s.cells) ((heights_of s.cells).rank p) (upper_part x p (reach (heights_of s.cells) x.lower p x.reaching))
+  pub high_value : (v q : ℕ) → v ≡ slab_value (heights_of s) (upper_part x p q) → q ≡ reach (heights_of s) x.lower p x.reaching
+      → v ≡ slab_below (heights_of s) ((heights_of s).rank p) (upper_part x p (reach (heights_of s) x.lower p x.reaching))
   high_value v q f z =
-      f ∙ (ap (λ (u : ℕ). slab_below (heights_of s.cells) u (upper_part x p q)) (open-below-high q)
-      ∙ ap (value (heights_of s.cells) ((heights_of s.cells).rank p) p x.upper) z)
+      f ∙ (ap (λ (u : ℕ). slab_below (heights_of s) u (upper_part x p q)) (open-below-high q)
+      ∙ ap (value (heights_of s) ((heights_of s).rank p) p x.upper) z)
 
   -- which are small,
-  pub low_small : (v : ℕ) → v ≡ slab_below (heights_of s.cells) ((heights_of s.cells).rank p) (lower_part x p) → v ≤ weight_bound
-  low_small v e = omega (arith, value-small ready-low ((heights_of s.cells).rank p) open-below)
+  pub low_small : Packed s → (v : ℕ) → v ≡ slab_below (heights_of s) ((heights_of s).rank p) (lower_part x p) → v ≤ weight_bound
+  low_small packed v e = omega (arith, value-small ready-low packed ((heights_of s).rank p) (open-below packed))
 
-  pub high_small : (v : ℕ) → v ≡ slab_below (heights_of s.cells) ((heights_of s.cells).rank p) (upper_part x p (reach (heights_of s.cells) x.lower p x.reaching))
+  pub high_small : Packed s → (v : ℕ)
+      → v ≡ slab_below (heights_of s) ((heights_of s).rank p) (upper_part x p (reach (heights_of s) x.lower p x.reaching))
       → v ≤ weight_bound
-  high_small v e = omega (arith, value-small (ready-high _ refl) ((heights_of s.cells).rank p) open-below)
+  high_small packed v e = omega (arith, value-small (ready-high _ refl) packed ((heights_of s).rank p) (open-below packed))
 
   -- are what the point gives outside; in the row of the upper end it can't be outside.
-  pub out-cut : (acc z u v : ℕ) → rows_differ (heights_of s.cells) p x.upper ≡ true → z ≡ join acc (join u v)
-      → u ≡ slab_below (heights_of s.cells) ((heights_of s.cells).rank p) (lower_part x p)
-      → v ≡ slab_below (heights_of s.cells) ((heights_of s.cells).rank p) (upper_part x p (reach (heights_of s.cells) x.lower p x.reaching))
-      → z ≡ join acc (slab_out (heights_of s.cells) ((heights_of s.cells).rank p) x)
+  pub out-cut : Packed s → (acc z u v : ℕ) → rows_differ (heights_of s) p x.upper ≡ true → z ≡ join acc (join u v)
+      → u ≡ slab_below (heights_of s) ((heights_of s).rank p) (lower_part x p)
+      → v ≡ slab_below (heights_of s) ((heights_of s).rank p) (upper_part x p (reach (heights_of s) x.lower p x.reaching))
+      → z ≡ join acc (slab_out (heights_of s) ((heights_of s).rank p) x)
   unfolding out_value
-  out-cut acc z u v c f g h = f ∙ rw (at-rank, c, g, h)
+  out-cut packed acc z u v c f g h = f ∙ rw (at-rank packed, c, g, h)
 
-  pub out_none : (acc : ℕ) → rows_differ (heights_of s.cells) p x.upper ≡ false → 0 ≡ join acc (slab_out (heights_of s.cells) ((heights_of s.cells).rank p) x)
+  pub out_none : Packed s → (acc : ℕ) → rows_differ (heights_of s) p x.upper ≡ false
+      → 0 ≡ join acc (slab_out (heights_of s) ((heights_of s).rank p) x)
   unfolding out_value
-  out_none acc c = sym (rw (at-rank, c) (join-none acc))
+  out_none packed acc c = sym (rw (at-rank packed, c) (join-none acc))

@@ -10,7 +10,6 @@ use Rattle.optimum.specs.Split.{flagged}
 use Rattle.orders.specs.Words.{value_at}
 use Rattle.optimum.specs.Entries.{note_at}
 use Rattle.optimum.specs.Slabs.{open_below, slab_has, slab_below, slab_value, slab_out, slab_takes, slab_recovered, slab_place, Proper}
-use Rattle.optimum.specs.declared.points.PackedPoints.{PackedPoints}
 use Rattle.optimum.specs.declared.table.Slab.{Slab}
 use Rattle.optimum.specs.declared.table.Found.{Found}
 use Rattle.optimum.specs.declared.values.Run.{Run}
@@ -46,49 +45,49 @@ pub record Memo (H : Heights) (table : List ℕ) : Type 0 where
 
 -- WHAT THE FUNCTIONS ASK, AND WHAT THEY LEAVE
 
--- A slab of these points.
-pub record Ready (s : PackedPoints) (x : Slab) : Type 0 where
-  pub proper : Proper (heights_of s.cells) x
+-- A slab of the points in the array s.
+pub record Ready (s : List ℕ) (x : Slab) : Type 0 where
+  pub proper : Proper (heights_of s) x
 
 -- With a table for it.
-pub record Asked (s : PackedPoints) (table : List ℕ) (x : Slab) : Type 0 where
+pub record Asked (s table : List ℕ) (x : Slab) : Type 0 where
   pub ready : Ready s x
-  pub memo : Memo (heights_of s.cells) table
+  pub memo : Memo (heights_of s) table
 
 -- Entries may have been added to the table.
-pub record Kept (s : PackedPoints) (table table' : List ℕ) : Type 0 where
-  pub memo : Memo (heights_of s.cells) table'
+pub record Kept (s table table' : List ℕ) : Type 0 where
+  pub memo : Memo (heights_of s) table'
   pub same : length table' ≡ length table
 
 -- No entry of the points in the array is noted.
-pub record Unnoted (s : PackedPoints) (table table' : List ℕ) : Type 0 where
+pub record Unnoted (s table table' : List ℕ) : Type 0 where
   pub same : length table' ≡ length table
-  pub none : (i : ℕ) → i < tet ((heights_of s.cells).n + 3) → note_at table' i ≡ 0
+  pub none : (i : ℕ) → i < tet ((heights_of s).n + 3) → note_at table' i ≡ 0
 
 -- r is the value of a slab, whose entry is noted now.
-pub record Valued (s : PackedPoints) (x : Slab) (r : ℕ) (table table' : List ℕ) : Type 0 where
-  pub is : r ≡ slab_value (heights_of s.cells) x
+pub record Valued (s : List ℕ) (x : Slab) (r : ℕ) (table table' : List ℕ) : Type 0 where
+  pub is : r ≡ slab_value (heights_of s) x
   pub kept : Kept s table table'
   pub noted : note_at table' (slab_place x) ≡ 0 → ⊥
 
 -- p is an open point of a slab.
-pub record Opened (s : PackedPoints) (x : Slab) (p : ℕ) : Type 0 where
+pub record Opened (s : List ℕ) (x : Slab) (p : ℕ) : Type 0 where
   pub ready : Ready s x
-  pub point : Point (heights_of s.cells) p
+  pub point : Point (heights_of s) p
   pub low : x.lower < p
   pub high : p < x.upper
-  pub below : (heights_of s.cells).rank p < open_below (heights_of s.cells) x
+  pub below : (heights_of s).rank p < open_below (heights_of s) x
 
 -- With a table for it, and the weight put inside so far.
-pub record Cutting (s : PackedPoints) (table : List ℕ) (x : Slab) (p acc : ℕ) : Type 0 where
+pub record Cutting (s table : List ℕ) (x : Slab) (p acc : ℕ) : Type 0 where
   pub opened : Opened s x p
-  pub memo : Memo (heights_of s.cells) table
+  pub memo : Memo (heights_of s) table
   pub some : 1 ≤ acc
   pub room : acc ≤ 64 * weight_bound
 
 -- r is what p gives outside, with that weight.
-pub record ValuedOutside (s : PackedPoints) (x : Slab) (p acc r : ℕ) (table table' : List ℕ) : Type 0 where
-  pub is : r ≡ join acc (slab_out (heights_of s.cells) ((heights_of s.cells).rank p) x)
+pub record ValuedOutside (s : List ℕ) (x : Slab) (p acc r : ℕ) (table table' : List ℕ) : Type 0 where
+  pub is : r ≡ join acc (slab_out (heights_of s) ((heights_of s).rank p) x)
   pub kept : Kept s table table'
 
 -- ONE ENTRY
@@ -115,8 +114,8 @@ Step H x t (Continue r) = Running H x t r
 Step H x t (Break f) = Settled H x f
 
 -- What a step leaves.
-pub record Stepped (s : PackedPoints) (x : Slab) (t : ℕ) (r : ControlFlow Found Run) (table table' : List ℕ) : Type 0 where
-  pub step : Step (heights_of s.cells) x t r
+pub record Stepped (s : List ℕ) (x : Slab) (t : ℕ) (r : ControlFlow Found Run) (table table' : List ℕ) : Type 0 where
+  pub step : Step (heights_of s) x t r
   pub kept : Kept s table table'
 
 -- THE RECOVERY
@@ -126,9 +125,9 @@ abbrev pub inside_flag : Bool
 inside_flag = true
 
 -- A slab that has a choice, and the table.
-pub record Recoverable (s : PackedPoints) (table : List ℕ) (x : Slab) : Type 0 where
+pub record Recoverable (s table : List ℕ) (x : Slab) : Type 0 where
   pub asked : Asked s table x
-  pub some : 1 ≤ slab_value (heights_of s.cells) x
+  pub some : 1 ≤ slab_value (heights_of s) x
 
 -- The flags of the points that the recovery of the ranks below t puts inside are set, and no others changed.
 pub record Flagged (H : Heights) (t : ℕ) (x : Slab) (flags flags' : List Bool) : Type 0 where
@@ -136,8 +135,8 @@ pub record Flagged (H : Heights) (t : ℕ) (x : Slab) (flags flags' : List Bool)
   pub set : (i : ℕ) → i ≤ H.n → flagged flags' i ≡ cond (slab_recovered H t x i) inside_flag (flagged flags i)
 
 -- They are, and the table may have grown.
-pub record FlaggedBelow (s : PackedPoints) (t : ℕ) (x : Slab) (flags flags' : List Bool) (table table' : List ℕ) : Type 0 where
-  pub flagged : Flagged (heights_of s.cells) t x flags flags'
+pub record FlaggedBelow (s : List ℕ) (t : ℕ) (x : Slab) (flags flags' : List Bool) (table table' : List ℕ) : Type 0 where
+  pub flagged : Flagged (heights_of s) t x flags flags'
   pub kept : Kept s table table'
 
 -- The point i is open, and of rank k or more.

@@ -13,9 +13,9 @@ use crate::values::{open_below, value_of};
 
 // The cut of a slab, as its entry notes it.
 fn cut_of(points: &PackedPoints, table: &mut [u16], slab: Slab) -> usize
-    requires { Recoverable points.now table.old slab }
+    requires { Recoverable points.now.cells table.old slab }
     ensures { CutAt (heights_of points.now.cells) slab result
-        × Kept points.now table.old table.new }
+        × Kept points.now.cells table.old table.new }
 {
     value_of(points, table, slab);
     read_note(table, place(points, slab)) - 1
@@ -35,7 +35,7 @@ fn flag_taken(points: &PackedPoints, flags: &mut Flags, i: usize, least: usize, 
 
 // Sets the flags of the open points of a slab whose rank is k or more: those that go inside where it is cut at the rank below.
 fn flag_down(points: &PackedPoints, flags: &mut Flags, slab: Slab, k: usize)
-    requires { Ready points.now slab × CutAt (heights_of points.now.cells) slab k }
+    requires { Ready points.now.cells slab × CutAt (heights_of points.now.cells) slab k }
     ensures { FlaggedDown (heights_of points.now.cells) slab k flags.old flags.new }
 {
     let below = open_below(points, slab);
@@ -47,8 +47,8 @@ fn flag_down(points: &PackedPoints, flags: &mut Flags, slab: Slab, k: usize)
 // Sets the flags of the inside points of a slab.
 #[cycle(cut_slab)]
 pub(crate) fn slab(points: &PackedPoints, table: &mut [u16], flags: &mut Flags, whole: Slab)
-    requires { Recoverable points.now table.old whole }
-    ensures { FlaggedBelow points.now (open_below (heights_of points.now.cells) whole)
+    requires { Recoverable points.now.cells table.old whole }
+    ensures { FlaggedBelow points.now.cells (open_below (heights_of points.now.cells) whole)
         whole flags.old flags.new table.old table.new }
 {
     let k = cut_of(points, table, whole);
@@ -59,8 +59,8 @@ pub(crate) fn slab(points: &PackedPoints, table: &mut [u16], flags: &mut Flags, 
 // Cuts a slab at the point of rank k - 1, and sets the flags of the inside points of both parts; where k is 0 there is nothing to cut.
 #[cycle(cut_slab)]
 fn cut(points: &PackedPoints, table: &mut [u16], flags: &mut Flags, whole: Slab, k: usize)
-    requires { Recoverable points.now table.old whole × CutAt (heights_of points.now.cells) whole k }
-    ensures { FlaggedBelow points.now k whole flags.old
+    requires { Recoverable points.now.cells table.old whole × CutAt (heights_of points.now.cells) whole k }
+    ensures { FlaggedBelow points.now.cells k whole flags.old
         flags.new table.old table.new }
 {
     if k == 0 {

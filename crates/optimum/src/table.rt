@@ -63,7 +63,7 @@ impl Slab {
 // The place of a slab. Here and below the points and the table are two references: the points are only read, and what a contract says of
 // the table alone would have to leave the points out, were they one.
 pub(crate) fn place(points: &PackedPoints, slab: Slab) -> usize
-    requires { Ready points.now slab }
+    requires { Ready points.now.cells slab }
     ensures { (result ≡ slab_place slab) × (result < entries) }
 {
     points.tetrahedral(slab.upper + 1) + points.triangular(slab.lower + 1) + slab.reaching
@@ -91,7 +91,7 @@ pub(crate) fn write_entry(table: &mut [u16], place: usize, found: Found)
 // Clears the notes of all slabs of the points. The values need no clearing: without a note none is read.
 pub(crate) fn clear_notes(points: &PackedPoints, table: &mut [u16])
     requires { Room table.old }
-    ensures { Unnoted points.now table.old table.new }
+    ensures { Unnoted points.now.cells table.old table.new }
 {
     let end = NOTES + points.tetrahedral(point_count(&points.cells) + 3);
     table[NOTES..end].fill(0);

@@ -57,8 +57,8 @@ fn joined(acc: u64, x: u64, y: u64) -> u64
 // What the open point p gives outside, with the weight put inside so far: the slab is cut at p.
 #[cycle(entry_outside_value_step_value_of)]
 fn outside_value(points: &PackedPoints, table: &mut [u16], slab: Slab, p: usize, acc: u64) -> u64
-    requires { Cutting points.now table.old slab p acc }
-    ensures { ValuedOutside points.now slab p acc result table.old table.new }
+    requires { Cutting points.now.cells table.old slab p acc }
+    ensures { ValuedOutside points.now.cells slab p acc result table.old table.new }
 {
     if !rows_differ(&points.cells, p, slab.upper) {
         return 0;
@@ -103,8 +103,8 @@ fn step(
     t: usize,
     run: Run,
 ) -> ControlFlow<Found, Run>
-    requires { Asked points.now table.old slab × Running (heights_of points.now.cells) slab (suc t) run }
-    ensures { Stepped points.now slab t result table.old table.new }
+    requires { Asked points.now.cells table.old slab × Running (heights_of points.now.cells) slab (suc t) run }
+    ensures { Stepped points.now.cells slab t result table.old table.new }
 {
     let p = points.at_rank(t);
     if !slab.has(p) {
@@ -136,9 +136,9 @@ fn step(
 // between its ends there is nothing to choose.
 #[cycle(entry_outside_value_step_value_of)]
 fn entry(points: &PackedPoints, table: &mut [u16], slab: Slab) -> Found
-    requires { Asked points.now table.old slab }
+    requires { Asked points.now.cells table.old slab }
     ensures { Settled (heights_of points.now.cells) slab result
-        × Kept points.now table.old table.new }
+        × Kept points.now.cells table.old table.new }
 {
     if slab.upper - slab.lower < 2 {
         return Found { value: 1, cut: 0 };
@@ -164,8 +164,8 @@ fn entry(points: &PackedPoints, table: &mut [u16], slab: Slab) -> Found
 // The value of a slab: looked up, or computed and then kept.
 #[cycle(entry_outside_value_step_value_of)]
 pub(crate) fn value_of(points: &PackedPoints, table: &mut [u16], slab: Slab) -> u64
-    requires { Asked points.now table.old slab }
-    ensures { Valued points.now slab result table.old table.new }
+    requires { Asked points.now.cells table.old slab }
+    ensures { Valued points.now.cells slab result table.old table.new }
 {
     let at = place(points, slab);
     if read_note(table, at) != 0 {

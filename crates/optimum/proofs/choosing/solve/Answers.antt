@@ -8,13 +8,13 @@ pub value_of-best-requires : goal.value_of-best-requires
 value_of-best-requires c =
     let p = c.requires in
     let unnoted = c.clear_notes.ensures in
-    record { ready = all-ready c.args.points.now _ c.point_count.ensures.0; memo = memo-none (omega (arith, unnoted.same, p.0)) unnoted }
+    record { ready = all-ready _ _ c.point_count.ensures.0; memo = memo-none (omega (arith, unnoted.same, p.0)) unnoted }
 
 pub returns-then-best-eq0 : goal.returns-then-best-eq0
 returns-then-best-eq0 c =
     let p = c.requires in
     let valued = c.value_of-best.ensures in (
-      all_none c.args.points.now _ c.point_count.ensures.0 _ _ valued.is c.if-best-eq0.true,
+      all_none _ _ c.point_count.ensures.0 c.args.points.now.packed _ _ valued.is c.if-best-eq0.true,
       valued.kept.same ∙ c.clear_notes.ensures.same,
     )
 
@@ -23,7 +23,7 @@ slab-requires c =
     let p = c.requires in
     let valued = c.value_of-best.ensures in
     record {
-      asked = record { ready = all-ready c.args.points.now _ c.point_count.ensures.0; memo = valued.kept.memo };
+      asked = record { ready = all-ready _ _ c.point_count.ensures.0; memo = valued.kept.memo };
       some = omega (arith, valued.is, c.if-best-eq0.false);
     }
 
@@ -32,6 +32,6 @@ returns c =
     let p = c.requires in
     let valued = c.value_of-best.ensures in
     let flagged = c.slab.ensures in (
-      all-solved c.args.points.now _ c.point_count.ensures.0 _ _ _ p.1 flagged.flagged valued.is,
+      all-solved _ _ c.point_count.ensures.0 c.args.points.now.packed _ _ _ p.1 flagged.flagged valued.is,
       flagged.kept.same ∙ (valued.kept.same ∙ c.clear_notes.ensures.same),
     )

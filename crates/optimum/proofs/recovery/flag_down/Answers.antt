@@ -8,9 +8,9 @@ loop-i-init c = taking-first c.requires.0 _
 
 pub loop-i-preserved : goal.loop-i-preserved
 loop-i-preserved c =
-    taking-next c.requires.0 c.loop-i.invariant _ _ c.loop-i-test.true (omega arith)
+    taking-next c.requires.0 c.args.points.now.packed c.loop-i.invariant _ _ c.loop-i-test.true (omega arith)
     c.open_below-below.ensures c.flag_taken.ensures
 
 pub returns : goal.returns
 returns c =
-    taking-last c.requires.0 c.loop-i.invariant c.loop-i-test.false c.requires.1
+    taking-last c.requires.0 c.args.points.now.packed c.loop-i.invariant c.loop-i-test.false c.requires.1

@@ -7,11 +7,11 @@ pub overflow_add-result-2 : goal.overflow_add-result-2
 overflow_add-result-2 c =
     omega (
       arith,
-      (place-sum c.requires c.tetrahedral.result
+      (place-sum c.requires c.args.points.now.packed c.tetrahedral.result
           c.triangular.result c.tetrahedral.ensures.0 c.triangular.ensures.0).1,
     )
 
 pub returns : goal.returns
 returns c =
-    place-sum c.requires _ _ c.tetrahedral.ensures.0
+    place-sum c.requires c.args.points.now.packed _ _ c.tetrahedral.ensures.0
     c.triangular.ensures.0

@@ -17,4 +17,4 @@ abbrev pub decreases-value_of : goal.decreases-value_of
 decreases-value_of l = (l.slab.upper - l.slab.lower) * 4 + 3
 
 abbrev pub invariant-entry-loop-t : goal.invariant-entry-loop-t
-invariant-entry-loop-t l = Running (heights_of l.points.cells) l.slab l.t l.run × Kept l.points l.initial.table l.table
+invariant-entry-loop-t l = Running (heights_of l.points.cells) l.slab l.t l.run × Kept l.points.cells l.initial.table l.table
