@@ -1,5 +1,5 @@
 -- The theorems on the definitions of specs/Put.antt. Assumes nothing.
-use Rattle.std.specs.Prelude.{◌≡◌, cond, refl, List, [], ◌∷◌, ◌++◌, ℕ, ◌+◌, ◌≤◌, ◌<◌, leb, length, take, drop, set}
+use Rattle.std.specs.Prelude.{◌≡◌, cond, refl, List, [], ◌∷◌, ◌++◌, ℕ, ◌+◌, ◌≤◌, ◌<◌, length, take, drop, set}
 use Rattle.std.proofs.Common.{sym, ap, ◌∙◌, length-append, take_at, le-leb, zero-add, arith}
 use Rattle.format.specs.Written.{written}
 use Rattle.format.proofs.Written.{written_none, written-more, written_twice, written-first, written-fits}

@@ -1,6 +1,6 @@
 -- The theorems on the definitions of specs/Writing.antt. Assumes nothing.
 use Rattle.std.specs.Prelude.{◌≡◌, cond, List, ◌++◌, ℕ, ◌+◌, ◌≤◌, leb, length, take, drop}
-use Rattle.std.proofs.Common.{sym, ap, ◌∙◌, append_assoc, length-append, le-leb, leb-true, zero-add, le_trans, arith}
+use Rattle.std.proofs.Common.{ap, ◌∙◌, append_assoc, length-append, le-leb, leb-true, zero-add, le_trans, arith}
 use Rattle.labeling.proofs.Decide.{decide}
 use Rattle.format.proofs.Written.{written-fits, written-first}
 use Rattle.lines.specs.Writing.{Prints, Added}

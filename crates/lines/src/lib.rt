@@ -43,24 +43,31 @@ pub fn refusal_line(no: u8, buffer: &mut [u8]) -> usize
     refusal(no).print(buffer)
 }
 
-// The line of a load with this answer, which gave the desk. A refusal is a `Refusal`, or its number: any byte, as with refusal_line.
+// The line of a refusal that an answer has: of a `Refusal`, or of its number, any byte, as with refusal_line.
+fn refused_line<N: Into<u8>>(refusal: N, buffer: &mut [u8]) -> usize
+    ensures { (k : ℕ) × N.converts refusal k × Prints 14 (refusal_line k) buffer.old result buffer.new }
+{
+    refusal_line(refusal.into(), buffer)
+}
+
+// The line of a load with this answer, which gave the desk.
 pub fn load_line<N: Into<u8>>(answer: Result<(), N>, desk: Desk, buffer: &mut [u8]) -> usize
     ensures { (by_number : Result (Unit {0}) ℕ) × Numbered N.converts answer by_number
         × Prints line_room (load_line by_number desk) buffer.old result buffer.new }
 {
     match answer {
         Ok(()) => loaded(desk).print(buffer),
-        Err(refusal) => refusal_line(refusal.into(), buffer),
+        Err(refusal) => refused_line(refusal, buffer),
     }
 }
 
-// The line of a mark with this answer; of its refusal as with load_line.
+// The line of a mark with this answer.
 pub fn mark_line<N: Into<u8>>(answer: Result<Marked, N>, buffer: &mut [u8]) -> usize
     ensures { (by_number : Result MarkedList ℕ) × Numbered N.converts answer by_number
         × Prints line_room (mark_line by_number) buffer.old result buffer.new }
 {
     match answer {
         Ok(Marked { number, verdict }) => marked(number, verdict).print(buffer),
-        Err(no) => refusal_line(no.into(), buffer),
+        Err(refusal) => refused_line(refusal, buffer),
     }
 }
