@@ -3,26 +3,19 @@ use Rattle.std.specs.Prelude.{◌≡◌, Bool, true, false, List, [], ◌∷◌,
 use Rattle.std.proofs.Common.{sym, append-nil, add-one, length-append, arith}
 use Rattle.lines.specs.Rooms.{point_room, points_room}
 use Rattle.lines.specs.Text.{ascii, digit, decimal, spaced}
-use Rattle.lines.proofs.Decimal.{decimal-small, decimal_step, one-longer, decimal-length}
+use Rattle.lines.proofs.Decimal.{decimal_step, decimal-length}
 use Rattle.lines.specs.Listing.{place, point_line, point_lines}
 use Rattle.lines.specs.Writing.{Added}
+use Rattle.lines.specs.Put.{Put}
+use Rattle.lines.proofs.Put.{put-more}
 use Rattle.lines.proofs.Writing.{added_more}
 
--- A NUMBER OF 16 BITS: one digit, or the number without its last digit and then that one, for which there is room
-pub added_small : {t t₁ : List ℕ} (n : ℕ) → n < 10 → Added 1 (digit n ∷ []) t t₁ → Added 5 (decimal n) t t₁
-added_small {t} {t₁} n s x =
-    let f : length t₁ ≤ length t + 1 = x.fits in
-    rw (decimal-small n s) (record { text-is = x.text-is; fits = omega arith })
-
-pub room_left : {room : ℕ} {t t₁ : List ℕ} (n : ℕ) → n < 65536 → 10 ≤ n → length t + 5 ≤ room → Added 5 (decimal (n / 10)) t t₁
-    → length t₁ + 1 ≤ room
-room_left {room} {t} n f great h x = rw (x.text-is, length-append) (omega (arith, one-longer n great, decimal-length n f))
-
-pub added_longer : {t t₁ t₂ : List ℕ} (n : ℕ) → n < 65536 → 10 ≤ n → Added 5 (decimal (n / 10)) t t₁
-    → Added 1 (digit (n % 10) ∷ []) t₁ t₂ → Added 5 (decimal n) t t₂
-added_longer {t} {t₁} {t₂} n f great a b =
-    let x : Added 6 (decimal n) t t₂ = rw (decimal_step n great) (added_more a b (omega arith)) in
-    record { text-is = x.text-is; fits = rw (x.text-is, length-append) (omega (arith, decimal-length n f)) }
+-- a number of 16 bits with a digit more
+pub put-longer : {o o₁ o₂ : List ℕ} {at m r : ℕ} (n : ℕ) → n < 65536 → 10 ≤ n → at + 5 ≤ length o
+    → Put 5 o at (decimal (n / 10)) m o₁ → Put 1 o₁ m (digit (n % 10) ∷ []) r o₂ → Put 5 o at (decimal n) r o₂
+put-longer {o} {o₁} {o₂} {at} {m} {r} n f great room a b =
+    let all : Put 6 o at (decimal n) r o₂ = rw (decimal_step n great) (put-more room a b) in
+    record { fits = decimal-length n f; next-is = all.next-is; text-is = all.text-is }
 
 -- "`in`, or `out` and its margin column"
 module _ {t t₁ : List ℕ} (inside : Bool) (margin : ℕ) where

@@ -1,9 +1,9 @@
 -- The theorems on the definitions of specs/Put.antt. Assumes nothing.
 use Rattle.std.specs.Prelude.{◌≡◌, cond, refl, List, [], ◌∷◌, ◌++◌, ℕ, ◌+◌, ◌≤◌, ◌<◌, length, take, drop, set}
-use Rattle.std.proofs.Common.{sym, ap, ◌∙◌, length-append, take_at, le-leb, zero-add, arith}
+use Rattle.std.proofs.Common.{sym, ap, ◌∙◌, length-append, length-take-le, take_at, le-leb, zero-add, arith}
 use Rattle.format.specs.Written.{written}
 use Rattle.format.proofs.Written.{written_none, written-more, written_twice, written-first, written-fits}
-use Rattle.lines.specs.Writing.{Prints}
+use Rattle.lines.specs.Writing.{Prints, Added}
 use Rattle.lines.specs.Put.{Put}
 
 -- one byte
@@ -60,3 +60,13 @@ put-printed {room} {l} {o} {o'} {n} f x = record {
   next-is = x.answer-is ∙ ap (λ b. cond b (length l) 0) (le-leb (length l) (length o) f) ∙ sym (zero-add (length l));
   text-is = x.buffer-is ∙ written-fits o 0 l (rw (zero-add (length l)) f);
 }
+
+-- what is put at the end of a text is added to it
+pub added_put : {room : ℕ} {o o' l : List ℕ} {at n : ℕ} → at ≤ length o → Put room o at l n o' → Added room l (take at o) (take n o')
+unfolding written
+added_put {room} {o} {o'} {l} {at} {n} h x =
+    let long : length (take at o ++ l) ≡ at + length l = simp (length-append, length-take-le at o h) in
+    let e : take n o' ≡ take at o ++ l =
+    ap (take n) x.text-is ∙ take_at (take at o ++ l) (drop (at + length l) o) n (long ∙ sym x.next-is) in
+    let f : length l ≤ room = x.fits in
+    record { text-is = e; fits = rw (e, length-append) (omega arith) }

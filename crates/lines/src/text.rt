@@ -1,10 +1,47 @@
 // A text in a buffer of its own, of at most N bytes: words and numbers go to its end. Nothing here allocates, so it is no String.
-ghost use Rattle.std.specs.Prelude.{◌≡◌, ℕ, List, [], ◌∷◌, ◌+◌, ◌≤◌, length, take};
-ghost use Rattle.lines.specs.Text.{ascii, decimal, spaced};
+ghost use Rattle.std.specs.Prelude.{◌≡◌, ℕ, List, [], ◌∷◌, ◌+◌, ◌<◌, ◌≤◌, length, take};
+ghost use Rattle.lines.specs.Put.{Put};
+ghost use Rattle.lines.specs.Text.{ascii, decimal, digit, spaced};
 ghost use Rattle.lines.specs.Writing.{Prints, Added};
 
 use format::copy_to;
 use std::marker::Model;
+
+// DIGITS, put into bytes from a place on. Each function gives the place after what it puts: a listing has many digits, and a text's length
+// goes through memory with each byte that is added to it.
+
+// An `as`: a `try_from` would need an `unwrap`.
+fn put_digit(bytes: &mut [u8], at: usize, value: u16) -> usize
+    requires { (value < 10) × (at < length bytes.old) }
+    ensures { Put 1 bytes.old at (digit value ∷ []) result bytes.new }
+{
+    bytes[at] = b'0' + value as u8;
+    at + 1
+}
+
+// By hand: no clause says that `write!` succeeds where there is room, and `io`, whose `decimal` has a contract, is for the programs, while C's
+// library has these lines too.
+fn put_decimal(bytes: &mut [u8], at: usize, number: u16) -> usize
+    requires { at + 5 ≤ length bytes.old }
+    ensures { Put 5 bytes.old at (decimal number) result bytes.new }
+{
+    if number < 10 {
+        return put_digit(bytes, at, number);
+    }
+    let last = put_decimal(bytes, at, number / 10);
+    put_digit(bytes, last, number % 10)
+}
+
+// A number after a space.
+fn put_number(bytes: &mut [u8], at: usize, number: u16) -> usize
+    requires { at + 6 ≤ length bytes.old }
+    ensures { Put 6 bytes.old at (spaced number) result bytes.new }
+{
+    bytes[at] = b' ';
+    put_decimal(bytes, at + 1, number)
+}
+
+// THE TEXT
 
 // In a clause a text is the list of its bytes.
 #[derive(Drop)]
@@ -41,36 +78,21 @@ impl<const N: usize> Text<N> {
         self.length = end;
     }
 
-    fn byte(&mut self, byte: u8)
-        requires { length self.old + 1 ≤ N }
-        ensures { Added 1 (byte ∷ []) self.old self.new }
-    {
-        self.bytes[self.length] = byte;
-        self.length += 1;
-    }
-
-    // By hand: no clause says that `write!` succeeds where there is room, and `io`, whose `decimal` has a contract, is for the programs, while C's
-    // library has these lines too. An `as` here narrows a digit: a `try_from` would need an `unwrap`.
-    #[tactic(auto, using(crate::proofs::Laws::added_small))]
     pub(crate) fn decimal(&mut self, number: u16)
         requires { length self.old + 5 ≤ N }
         ensures { Added 5 (decimal number) self.old self.new }
     {
-        if number < 10 {
-            return self.byte(b'0' + number as u8);
-        }
-        self.decimal(number / 10);
-        self.byte(b'0' + (number % 10) as u8);
+        let at = self.length;
+        self.length = put_decimal(&mut self.bytes, at, number);
     }
 
     // A number after a space.
-    #[tactic(auto, using(crate::proofs::Writing::added_more), unfolding(crate::specs::Text::spaced))]
     pub(crate) fn number(&mut self, number: u16)
         requires { length self.old + 6 ≤ N }
         ensures { Added 6 (spaced number) self.old self.new }
     {
-        self.word(b" ");
-        self.decimal(number);
+        let at = self.length;
+        self.length = put_number(&mut self.bytes, at, number);
     }
 
     // Ends the line.
