@@ -1,6 +1,6 @@
 -- Texts added one after another. Assumes nothing.
 use Rattle.std.specs.Prelude.{◌≡◌, Bool, true, false, List, [], ◌∷◌, ℕ, ◌+◌, ◌/◌, ◌%◌, ◌≤◌, ◌<◌, length}
-use Rattle.std.proofs.Common.{sym, append-nil, add-one, length-append, arith}
+use Rattle.std.proofs.Common.{sym, append-nil, add-one, arith}
 use Rattle.lines.specs.Rooms.{point_room, points_room}
 use Rattle.lines.specs.Text.{ascii, digit, decimal, spaced}
 use Rattle.lines.proofs.Decimal.{decimal_step, decimal-length}

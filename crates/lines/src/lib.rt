@@ -2,7 +2,7 @@
 // is written, and the answer is 0. No text is empty, so 0 says so, as `Prints` has it, and C gets `listing`'s answer as it is.
 #![tactic(auto)]
 
-ghost use Rattle.std.specs.Prelude.{◌≡◌, ℕ, Result};
+ghost use Rattle.std.specs.Prelude.{ℕ, Result};
 ghost use Rattle.desk.specs.declared.Marked.{Marked as MarkedList};
 ghost use Rattle.lines.specs.Rooms.{line_room};
 ghost use Rattle.lines.specs.Numbered.{Numbered};

@@ -10,7 +10,7 @@ use std::marker::Model;
 // DIGITS, put into bytes from a place on. Each function gives the place after what it puts: a listing has many digits, and a text's length
 // goes through memory with each byte that is added to it.
 
-// An `as`: a `try_from` would need an `unwrap`.
+// The `as` narrows a digit: a `try_from` would need an `unwrap`.
 fn put_digit(bytes: &mut [u8], at: usize, value: u16) -> usize
     requires { (value < 10) × (at < length bytes.old) }
     ensures { Put 1 bytes.old at (digit value ∷ []) result bytes.new }
