@@ -1,18 +1,16 @@
 -- The theorems on the definitions of specs/Writing.antt. Assumes nothing.
 use Rattle.std.specs.Prelude.{◌≡◌, cond, List, ◌++◌, ℕ, ◌+◌, ◌≤◌, leb, length, take, drop}
-use Rattle.std.proofs.Common.{ap, ◌∙◌, append_assoc, length-append, le-leb, leb-true, zero-add, le_trans, arith}
+use Rattle.std.proofs.Common.{ap, ◌∙◌, append_assoc, length-append, leb-true, zero-add, le_trans, arith}
 use Rattle.labeling.proofs.Decide.{decide}
-use Rattle.format.proofs.Written.{written-fits, written-first}
+use Rattle.format.proofs.Written.{written-first}
 use Rattle.lines.specs.Writing.{Prints, Added}
 use Rattle.lines.proofs.Put.{put-text, put-printed}
 
 -- a text that fits is counted, and stands at the start
 prints-fitting : {room : ℕ} {l o o' : List ℕ} {n : ℕ} → length l ≤ length o → Prints room l o n o'
     → (n ≡ length l) × (o' ≡ l ++ drop (length l) o)
-prints-fitting {room} {l} {o} {o'} {n} f x = (
-  x.answer-is ∙ ap (λ b. cond b (length l) 0) (le-leb (length l) (length o) f),
-  x.buffer-is ∙ written-fits o 0 l (rw (zero-add (length l)) f) ∙ written-first o l,
-)
+prints-fitting {room} {l} {o} {o'} {n} f x =
+    let p = put-printed f x in (p.next-is ∙ zero-add (length l), p.text-is ∙ written-first o l)
 
 -- what a buffer with enough room has at its start is the text
 pub prints-whole : {room : ℕ} {l o o' : List ℕ} {n : ℕ} → room ≤ length o → Prints room l o n o' → take n o' ≡ l

@@ -1,5 +1,5 @@
--- TO BE BELIEVED: numbers in decimal, the number of a refusal, the texts, the room that they need, and what a call that writes one promises (`Prints` and
--- `PrintsListing` of Writing, the rest of which is for proofs).
+-- TO BE BELIEVED: numbers in decimal, the number of a refusal, the texts, the room that they need, and what a call that writes one promises
+-- (`Prints` and `PrintsListing` of Writing, the rest of which is for proofs).
 pub mod Text
 pub mod Listing
 pub mod Numbered

@@ -5,7 +5,7 @@
 ghost use Rattle.std.specs.Prelude.{ℕ, Result};
 ghost use Rattle.desk.specs.declared.Marked.{Marked as MarkedList};
 ghost use Rattle.lines.specs.Rooms.{line_room};
-ghost use Rattle.lines.specs.Numbered.{Numbered};
+ghost use Rattle.lines.specs.Numbered.{ByNumber};
 ghost use Rattle.lines.specs.DeskLines.{refusal_line, load_line, mark_line};
 ghost use Rattle.lines.specs.Writing.{Prints, PrintsListing};
 
@@ -52,7 +52,7 @@ fn refused_line<N: Into<u8>>(refusal: N, buffer: &mut [u8]) -> usize
 
 // The line of a load with this answer, which gave the desk.
 pub fn load_line<N: Into<u8>>(answer: Result<(), N>, desk: Desk, buffer: &mut [u8]) -> usize
-    ensures { (by_number : Result (Unit {0}) ℕ) × Numbered N.converts answer by_number
+    ensures { (by_number : Result (Unit {0}) ℕ) × ByNumber N.converts answer by_number
         × Prints line_room (load_line by_number desk) buffer.old result buffer.new }
 {
     match answer {
@@ -63,7 +63,7 @@ pub fn load_line<N: Into<u8>>(answer: Result<(), N>, desk: Desk, buffer: &mut [u
 
 // The line of a mark with this answer.
 pub fn mark_line<N: Into<u8>>(answer: Result<Marked, N>, buffer: &mut [u8]) -> usize
-    ensures { (by_number : Result MarkedList ℕ) × Numbered N.converts answer by_number
+    ensures { (by_number : Result MarkedList ℕ) × ByNumber N.converts answer by_number
         × Prints line_room (mark_line by_number) buffer.old result buffer.new }
 {
     match answer {
